@@ -1,0 +1,205 @@
+-- Tests over lists: `filter`, `any`, `all`, `count`, `tab`.
+use mathlib.Core.Path.{_≡_, refl, sym, ap, ap₂, _∙_}
+use mathlib.Core.Logic.{⊎-elim}
+use Prim.Native.Nat.{ℕ, zero, suc, _+_, _≤_, _<_}
+use native.Mathlib.Omega.{arith}
+use native.Mathlib.Nat.{zero-add}
+use mathlib.Core.Bool.{Bool, true, false, _&&_, _||_, false≢true, true≢false}
+use mathlib.Core.List.{List, [], _∷_, _++_, map, Sublistᴰ, Sublistᴰ·slnil, Sublistᴰ·cons, Sublistᴰ·cons-cons, List·Memᴰ, List·Memᴰ·head, List·Memᴰ·tail, List·Memᴰ·not-nil, List·Memᴰ·cases-cons}
+use lib.ListN.{length, drop, getD}
+use lib.Seq.{drop-cons, drop-nil}
+use Rattle.bits.specs.Vectors.{filter, keep, any, all, count, bit, pick, firstPlace, tab}
+
+-- ---- tests
+
+pub and-l : (a b : Bool) → a && b ≡ true → a ≡ true
+and-l true b h = refl
+and-l false b h = h
+
+pub and-r : (a b : Bool) → a && b ≡ true → b ≡ true
+and-r true b h = h
+and-r false b h = absurd (false≢true h)
+
+pub and-i : (a b : Bool) → a ≡ true → b ≡ true → a && b ≡ true
+and-i a b p q = rw p q
+
+pub bool-ext : (a b : Bool) → (a ≡ true → b ≡ true) → (b ≡ true → a ≡ true) → a ≡ b
+bool-ext true b f g = sym (f refl)
+bool-ext false true f g = g refl
+bool-ext false false f g = refl
+
+-- ---- lists
+
+module _ {A : Type 0} where
+  pub any-mem : (p : A → Bool) (l : List A) → any p l ≡ true → (a : A) × List·Memᴰ a l × (p a ≡ true)
+  any-mem p [] h = absurd (false≢true h)
+  any-mem p (x ∷ l) h = go (p x) refl (any-mem p l) h
+    where
+      go : (b : Bool) → p x ≡ b → (any p l ≡ true → (a : A) × List·Memᴰ a l × (p a ≡ true)) → b || any p l ≡ true → (a : A) × List·Memᴰ a (x ∷ l) × (p a ≡ true)
+      go true e f k = (x, List·Memᴰ·head refl, e)
+      go false e f k = let t = f k in (t .0, List·Memᴰ·tail (t .1), t .2)
+
+  pub mem-any : (p : A → Bool) {l : List A} {a : A} → List·Memᴰ a l → p a ≡ true → any p l ≡ true
+  mem-any p (List·Memᴰ·head e) h = rw (← e, h)
+  mem-any p (List·Memᴰ·tail {x = x} {xs = l} m) h = or-r (p x) (any p l) (mem-any p m h)
+    where
+      or-r : (a b : Bool) → b ≡ true → a || b ≡ true
+      or-r true b q = refl
+      or-r false b q = q
+
+  pub all-mem : (p : A → Bool) {l : List A} {a : A} → List·Memᴰ a l → all p l ≡ true → p a ≡ true
+  all-mem p (List·Memᴰ·head {x = x} {xs = l} e) h = rw e (and-l (p x) (all p l) h)
+  all-mem p (List·Memᴰ·tail {x = x} {xs = l} m) h = all-mem p m (and-r (p x) (all p l) h)
+
+  pub not-all : (p : A → Bool) (l : List A) → all p l ≡ false → (a : A) × List·Memᴰ a l × (p a ≡ false)
+  not-all p [] h = absurd (true≢false h)
+  not-all p (x ∷ l) h = go (p x) refl (not-all p l) h
+    where
+      go : (b : Bool) → p x ≡ b → (all p l ≡ false → (a : A) × List·Memᴰ a l × (p a ≡ false)) → b && all p l ≡ false → (a : A) × List·Memᴰ a (x ∷ l) × (p a ≡ false)
+      go false e f k = (x, List·Memᴰ·head refl, e)
+      go true e f k = let t = f k in (t .0, List·Memᴰ·tail (t .1), t .2)
+
+  pub filter-mem : (p : A → Bool) (l : List A) {a : A} → List·Memᴰ a (filter p l) → List·Memᴰ a l × (p a ≡ true)
+  filter-mem p [] m = absurd (List·Memᴰ·not-nil m)
+  filter-mem p (x ∷ l) {a} m = go (p x) refl (filter-mem p l) m
+    where
+      go : (b : Bool) → p x ≡ b → (List·Memᴰ a (filter p l) → List·Memᴰ a l × (p a ≡ true)) → List·Memᴰ a (keep b x (filter p l)) → List·Memᴰ a (x ∷ l) × (p a ≡ true)
+      go true e f k = ⊎-elim (λ q. (List·Memᴰ·head q, rw q e)) (λ t. (List·Memᴰ·tail (f t .0), f t .1)) (List·Memᴰ·cases-cons k)
+      go false e f k = (List·Memᴰ·tail (f k .0), f k .1)
+
+  pub mem-filter : (p : A → Bool) {l : List A} {a : A} → List·Memᴰ a l → p a ≡ true → List·Memᴰ a (filter p l)
+  mem-filter p {a = a} (List·Memᴰ·head {x = x} {xs = l} e) h = rw (ap p (sym e) ∙ h) (List·Memᴰ·head e)
+  mem-filter p {a = a} (List·Memᴰ·tail {x = x} {xs = l} m) h = go (p x) (mem-filter p m h)
+    where
+      go : (b : Bool) → List·Memᴰ a (filter p l) → List·Memᴰ a (keep b x (filter p l))
+      go true k = List·Memᴰ·tail k
+      go false k = k
+
+  pub length-filter : (p : A → Bool) (l : List A) → length (filter p l) ≡ count p l
+  length-filter p [] = refl
+  length-filter p (x ∷ l) = go (p x) (length-filter p l)
+    where
+      go : (b : Bool) → length (filter p l) ≡ count p l → length (keep b x (filter p l)) ≡ bit b + count p l
+      go true e = omega arith
+      go false e = omega arith
+
+  pub count-append : (p : A → Bool) (l m : List A) → count p (l ++ m) ≡ count p l + count p m
+  count-append p [] m = sym (zero-add (count p m))
+  count-append p (x ∷ l) m = omega (arith, count-append p l m)
+
+  pub count-ext : (p q : A → Bool) (l : List A) → ((a : A) → List·Memᴰ a l → p a ≡ q a) → count p l ≡ count q l
+  count-ext p q [] h = refl
+  count-ext p q (x ∷ l) h = ap₂ (λ (b : Bool) (n : ℕ). bit b + n) (h x (List·Memᴰ·head refl)) (count-ext p q l (λ a m. h a (List·Memᴰ·tail m)))
+
+  pub filter-filter : (p q : A → Bool) (l : List A) → filter p (filter q l) ≡ filter (λ (a : A). q a && p a) l
+  filter-filter p q [] = refl
+  filter-filter p q (x ∷ l) = go (q x) (filter-filter p q l)
+    where
+      go : (b : Bool) → filter p (filter q l) ≡ filter (λ (a : A). q a && p a) l → filter p (keep b x (filter q l)) ≡ keep (b && p x) x (filter (λ (a : A). q a && p a) l)
+      go true e = rw e
+      go false e = e
+
+module _ {A B : Type 0} (f : A → B) (p : B → Bool) where
+  pub count-map : (l : List A) → count p (map f l) ≡ count (λ (a : A). p (f a)) l
+  count-map [] = refl
+  count-map (x ∷ l) = rw (count-map l)
+
+  pub filter-map : (l : List A) → filter p (map f l) ≡ map f (filter (λ (a : A). p (f a)) l)
+  filter-map [] = refl
+  filter-map (x ∷ l) = go (p (f x)) (filter-map l)
+    where
+      go : (b : Bool) → filter p (map f l) ≡ map f (filter (λ (a : A). p (f a)) l) → keep b (f x) (filter p (map f l)) ≡ map f (keep b x (filter (λ (a : A). p (f a)) l))
+      go true e = ap {B = List B} (λ r. f x ∷ r) e
+      go false e = e
+
+module _ {A : Type 0} where
+  pub count-le : (p : A → Bool) (l : List A) → count p l ≤ length l
+  count-le p [] = omega arith
+  count-le p (a ∷ l) = go (p a) (count-le p l)
+    where
+      go : (b : Bool) → count p l ≤ length l → bit b + count p l ≤ suc (length l)
+      go true h = omega arith
+      go false h = omega arith
+
+  -- a stricter test passes fewer, in the same order
+  pub sub-filter : (p q : A → Bool) → ((a : A) → p a ≡ true → q a ≡ true) → (l : List A) → Sublistᴰ (filter p l) (filter q l)
+  sub-filter p q h [] = Sublistᴰ·slnil
+  sub-filter p q h (x ∷ l) = go (p x) (q x) (h x) (sub-filter p q h l)
+    where
+      go : (b c : Bool) → (b ≡ true → c ≡ true) → Sublistᴰ (filter p l) (filter q l) → Sublistᴰ (keep b x (filter p l)) (keep c x (filter q l))
+      go true true f s = Sublistᴰ·cons-cons refl s
+      go true false f s = absurd (false≢true (f refl))
+      go false true f s = Sublistᴰ·cons s
+      go false false f s = s
+
+-- ---- tables
+
+module _ {A : Type 0} where
+  pub length-tab : (n : ℕ) (f : ℕ → A) → length (tab n f) ≡ n
+  length-tab zero f = refl
+  length-tab (suc n) f = ap suc (length-tab n (λ (i : ℕ). f (suc i)))
+
+  pub tab-at : (n : ℕ) (f : ℕ → A) (i : ℕ) (d : A) → i < n → getD (tab n f) i d ≡ f i
+  tab-at zero f i d h = absurd (omega arith)
+  tab-at (suc n) f zero d h = refl
+  tab-at (suc n) f (suc i) d h = tab-at n (λ (k : ℕ). f (suc k)) i d (omega arith)
+
+  pub tab-getD : (l : List A) (d : A) (f : ℕ → A) → ((i : ℕ) → i < length l → f i ≡ getD l i d) → tab (length l) f ≡ l
+  tab-getD [] d f h = refl
+  tab-getD (b ∷ l) d f h = ap₂ {C = List A} _∷_ (h zero (omega arith)) (tab-getD l d (λ (i : ℕ). f (suc i)) (λ i q. h (suc i) (omega arith)))
+
+-- ---- a search from the front: what is left to do at place i
+
+module _ {A : Type 0} (p : A → Bool) (l : List A) (i : ℕ) (d : A) (h : i < length l) where
+  -- the place of the first that passes: i passes, or i is passed over
+  pub place-found : p (getD l i d) ≡ true → i + firstPlace p (drop i l) ≡ i
+  place-found e = rw (drop-cons l i d h, e) (omega arith)
+
+  pub place-next : p (getD l i d) ≡ false → i + firstPlace p (drop i l) ≡ suc i + firstPlace p (drop (suc i) l)
+  place-next e = rw (drop-cons l i d h, e) (omega arith)
+
+  -- whether all pass: i fails, or i passes
+  pub all-fails : p (getD l i d) ≡ false → all p (drop i l) ≡ false
+  all-fails e = rw (drop-cons l i d h, e)
+
+  pub all-next : p (getD l i d) ≡ true → all p (drop i l) ≡ all p (drop (suc i) l)
+  all-next e = rw (drop-cons l i d h, e)
+
+module _ {A : Type 0} (p : A → Bool) where
+  drop-end : (l : List A) (i : ℕ) → length l ≤ i → drop i l ≡ []
+  drop-end [] i h = drop-nil i
+  drop-end (a ∷ l) zero h = absurd (omega arith)
+  drop-end (a ∷ l) (suc i) h = drop-end l i (omega arith)
+
+  pub place-end : (l : List A) (i : ℕ) → length l ≤ i → i + firstPlace p (drop i l) ≡ i
+  place-end l i h = rw (drop-end l i h) (omega arith)
+
+  pub all-end : (l : List A) (i : ℕ) → length l ≤ i → all p (drop i l) ≡ true
+  all-end l i h = rw (drop-end l i h)
+
+  pub place-le : (l : List A) → firstPlace p l ≤ length l
+  place-le [] = omega arith
+  place-le (a ∷ l) = go (p a) (place-le l)
+    where
+      go : (b : Bool) → firstPlace p l ≤ length l → pick b 0 (suc (firstPlace p l)) ≤ suc (length l)
+      go true q = omega arith
+      go false q = omega arith
+
+  -- at its place the test holds, and at none before
+  pub place-passes : (l : List A) (d : A) → firstPlace p l < length l → p (getD l (firstPlace p l) d) ≡ true
+  place-passes [] d h = absurd (omega arith)
+  place-passes (a ∷ l) d h = go (p a) refl (place-passes l d) h
+    where
+      go : (b : Bool) → p a ≡ b → (firstPlace p l < length l → p (getD l (firstPlace p l) d) ≡ true) → pick b 0 (suc (firstPlace p l)) < suc (length l)
+          → p (getD (a ∷ l) (pick b 0 (suc (firstPlace p l))) d) ≡ true
+      go true e f q = e
+      go false e f q = f (omega arith)
+
+  pub place-first : (l : List A) (d : A) (i : ℕ) → i < firstPlace p l → p (getD l i d) ≡ false
+  place-first [] d i h = absurd (omega arith)
+  place-first (a ∷ l) d i h = go (p a) refl i (λ j q. place-first l d j q) h
+    where
+      go : (b : Bool) → p a ≡ b → (i : ℕ) → ((j : ℕ) → j < firstPlace p l → p (getD l j d) ≡ false) → i < pick b 0 (suc (firstPlace p l)) → p (getD (a ∷ l) i d) ≡ false
+      go true e i f q = absurd (omega arith)
+      go false e zero f q = e
+      go false e (suc i) f q = f i (omega arith)

@@ -1,0 +1,139 @@
+-- The answers: their five numbers, the table of refusals of each call, and what each call answers and leaves in its buffer.
+--     numbersOf a          code, place, g, m, d
+--     Refusal, firstOf     a row of a table of refusals; the first that applies is given
+--     Reply                an answer, and the bytes of the output buffer after the call
+--     checking             the sheet alone, with its r
+--     encoding, readingBack, decoding      the calls with a buffer
+-- `s` is the sheet, `w` the word, `p` the payload, `c` the ceiling, `out` the buffer as found.
+use Prim.Native.Nat.{ℕ, _+_, _*_, _-_, _^_}
+use mathlib.Core.Bool.{Bool, _&&_, _||_, not}
+use mathlib.Core.List.{List, [], _∷_, _++_, map}
+use lib.ListN.{length, drop}
+use lib.Dec.{eqb, leb, ltb}
+use Rattle.bits.specs.Vectors.{bit, pick, firstPlace}
+use Rattle.meaning.specs.Limits.{largestN, recordBytes, largestCeiling}
+use Rattle.meaning.specs.Sheet.{Rule, rules, badRecord, frees}
+use Rattle.meaning.specs.Codewords.{candidates, payloadOf, carrying}
+use Rattle.meaning.specs.Open.{unknowns, equations}
+use Rattle.meaning.specs.Strips.{first, strips, dimension}
+use Rattle.meaning.specs.declared.Answer.{Answer}
+use Rattle.meaning.specs.declared.Answer.the-variants.{Done, Unique, Ambiguous, Inconsistent, BadShape, BadRecord, BadCheck, BadLength, BadSymbol, ShortOutput, BadCeiling, TooMany}
+
+-- ---- the numbers of each answer
+
+-- code, place, unknowns g, equations m, dimension d
+abbrev pub numbersOf : Answer → List ℕ
+numbersOf Done = 0 ∷ 0 ∷ 0 ∷ 0 ∷ 0 ∷ []
+numbersOf (Unique g m) = 0 ∷ 0 ∷ g ∷ m ∷ 0 ∷ []
+numbersOf (Ambiguous g m d) = 1 ∷ 0 ∷ g ∷ m ∷ d ∷ []
+numbersOf (Inconsistent g m) = 2 ∷ 0 ∷ g ∷ m ∷ 0 ∷ []
+numbersOf BadShape = 11 ∷ 0 ∷ 0 ∷ 0 ∷ 0 ∷ []
+numbersOf (BadRecord i) = 12 ∷ i ∷ 0 ∷ 0 ∷ 0 ∷ []
+numbersOf BadCheck = 13 ∷ 0 ∷ 0 ∷ 0 ∷ 0 ∷ []
+numbersOf BadLength = 14 ∷ 0 ∷ 0 ∷ 0 ∷ 0 ∷ []
+numbersOf (BadSymbol i) = 15 ∷ i ∷ 0 ∷ 0 ∷ 0 ∷ []
+numbersOf ShortOutput = 16 ∷ 0 ∷ 0 ∷ 0 ∷ 0 ∷ []
+numbersOf BadCeiling = 17 ∷ 0 ∷ 0 ∷ 0 ∷ 0 ∷ []
+numbersOf (TooMany g) = 18 ∷ 0 ∷ g ∷ 0 ∷ 0 ∷ []
+
+-- ---- refusals
+
+-- a row of a table: whether it applies, and what is then answered
+pub record Refusal : Type 0 where
+  pub applies : Bool
+  pub answer : Answer
+
+infixr 35 _⇒_
+abbrev pub _⇒_ : Bool → Answer → Refusal
+t ⇒ a = record { applies = t; answer = a }
+
+-- the first row that applies is given, as the call's result; z where none does
+abbrev pub firstOf : {A : Type 0} → (Answer → A) → List Refusal → A → A
+firstOf f [] z = z
+firstOf f (t ∷ ts) z = pick (t .applies) (f (t .answer)) (firstOf f ts z)
+
+-- 11: n above the largest, or a sheet that is not N records long
+unfoldable pub badShape : ℕ → List ℕ → Bool
+badShape n s = ltb largestN n || not (eqb (length s) (2 ^ n * recordBytes))
+
+-- 13: r not 0, 6, 11, or r > 0 and K ≤ r
+unfoldable pub badCheck : ℕ → ℕ → Bool
+badCheck r k = not (eqb r 0 || eqb r 6 || eqb r 11) || (ltb 0 r && leb k r)
+
+-- the sheet's faults, in every call: 11, 12, 13
+unfoldable pub sheetRefusals : ℕ → List ℕ → ℕ → List Refusal
+sheetRefusals n s r =
+    (badShape n s ⇒ BadShape)
+    ∷ (ltb (badRecord n s) (2 ^ n) ⇒ BadRecord (badRecord n s))
+    ∷ (badCheck r (frees (rules n s)) ⇒ BadCheck)
+    ∷ []
+
+-- 14, 15, 16: a word not as long as wanted, its first symbol above the top, an output shorter than needed
+unfoldable pub wordRefusals : ℕ → ℕ → ℕ → List ℕ → List ℕ → List Refusal
+wordRefusals wanted top needed w out =
+    (not (eqb (length w) wanted) ⇒ BadLength)
+    ∷ (ltb (firstPlace (ltb top) w) (length w) ⇒ BadSymbol (firstPlace (ltb top) w))
+    ∷ (ltb (length out) needed ⇒ ShortOutput)
+    ∷ []
+
+-- 17, 18: a ceiling above the largest, g above the ceiling
+unfoldable pub ceilingRefusals : ℕ → ℕ → List Refusal
+ceilingRefusals c g = (ltb largestCeiling c ⇒ BadCeiling) ∷ (ltb c g ⇒ TooMany g) ∷ []
+
+-- ---- the sheet alone
+
+unfoldable pub checking : ℕ → List ℕ → ℕ → Answer
+checking n s r = firstOf (λ (a : Answer). a) (sheetRefusals n s r) Done
+
+-- ---- the calls with a buffer
+
+-- the answer, and the bytes of the buffer after the call
+pub record Reply : Type 0 where
+  pub answer : Answer
+  pub bytes : List ℕ
+
+-- the buffer is left as found
+abbrev pub leaving : List ℕ → Answer → Reply
+leaving out a = record { answer = a; bytes = out }
+
+-- the buffer starts with these bytes, and later ones are as found
+abbrev pub writing : List ℕ → List ℕ → Answer → Reply
+writing new out a = record { answer = a; bytes = new ++ drop (length new) out }
+
+-- encoding uses 11 to 16, needs N bytes, answers 0 and writes N symbols
+unfoldable pub encodeRefusals : ℕ → List ℕ → ℕ → List ℕ → List ℕ → List Refusal
+encodeRefusals n s r p out = sheetRefusals n s r ++ wordRefusals (frees (rules n s) - r) 1 (2 ^ n) p out
+
+-- a symbol as a bit
+abbrev pub isOne : ℕ → Bool
+isOne b = eqb b 1
+
+unfoldable pub encoding : ℕ → List ℕ → ℕ → List ℕ → List ℕ → Reply
+encoding n s r p out = firstOf (leaving out) (encodeRefusals n s r p out) (writing (first (carrying n (rules n s) r (map isOne p))) out Done)
+
+-- read-back uses 11 to 16, needs K - r bytes, answers 0 with the payload or 2 where the word isn't a codeword
+unfoldable pub readRefusals : ℕ → List ℕ → ℕ → List ℕ → List ℕ → List Refusal
+readRefusals n s r w out = sheetRefusals n s r ++ wordRefusals (2 ^ n) 1 (frees (rules n s) - r) w out
+
+-- a word with nothing erased agrees with one codeword, or with none
+unfoldable pub payloadRead : ℕ → List Rule → ℕ → List (List Bool) → List ℕ → Reply
+payloadRead n ks r [] out = leaving out (Inconsistent 0 0)
+payloadRead n ks r (x ∷ cs) out = writing (map bit (payloadOf n ks r x)) out Done
+
+unfoldable pub readingBack : ℕ → List ℕ → ℕ → List ℕ → List ℕ → Reply
+readingBack n s r w out = firstOf (leaving out) (readRefusals n s r w out) (payloadRead n (rules n s) r (candidates n (rules n s) r w) out)
+
+-- decoding uses 11 to 18 and needs 3N bytes
+unfoldable pub decodeRefusals : ℕ → List ℕ → ℕ → ℕ → List ℕ → List ℕ → List Refusal
+decodeRefusals n s r c w out = sheetRefusals n s r ++ wordRefusals (2 ^ n) 2 (3 * 2 ^ n) w out ++ ceilingRefusals c (unknowns n (rules n s) w)
+
+-- none agrees, one does, or several do
+unfoldable pub verdict : ℕ → ℕ → ℕ → List (List Bool) → List ℕ → Reply
+verdict n g m [] out = leaving out (Inconsistent g m)
+verdict n g m (x ∷ []) out = writing (strips n (x ∷ [])) out (Unique g m)
+verdict n g m (x ∷ y ∷ cs) out = writing (strips n (x ∷ y ∷ cs)) out (Ambiguous g m (dimension (x ∷ y ∷ cs)))
+
+unfoldable pub decoding : ℕ → List ℕ → ℕ → ℕ → List ℕ → List ℕ → Reply
+decoding n s r c w out =
+    let ks = rules n s in
+    firstOf (leaving out) (decodeRefusals n s r c w out) (verdict n (unknowns n ks w) (equations n ks r w) (candidates n ks r w) out)

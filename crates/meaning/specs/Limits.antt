@@ -1,0 +1,29 @@
+-- The numbers that 01 fixes, each in one place. No law depends on their values.
+--     largestN          N = 2 ^ n symbols, n from 0 to this
+--     maskBytes         bytes of a record's mask
+--     recordBytes       bytes of a record of the sheet: 4, then the mask
+--     largestCeiling    the ceiling on unknowns is 0 to this
+--     stripWidth        bytes of a strip in an answer record
+--     leads r           the bits that stand before the free bits when the check divides
+use Prim.Native.Nat.{ℕ, _+_}
+use mathlib.Core.Bool.{Bool}
+use mathlib.Core.List.{List, []}
+
+unfoldable pub largestN : ℕ
+largestN = 7
+
+unfoldable pub maskBytes : ℕ
+maskBytes = 16
+
+unfoldable pub recordBytes : ℕ
+unfolding maskBytes
+recordBytes = 4 + maskBytes
+
+unfoldable pub largestCeiling : ℕ
+largestCeiling = 63
+
+unfoldable pub stripWidth : ℕ
+stripWidth = 128
+
+unfoldable pub leads : ℕ → List Bool
+leads r = []

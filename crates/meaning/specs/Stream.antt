@@ -1,0 +1,71 @@
+-- The stream: one answer record for each word of the input, in its place.
+--     header a             the first 8 bytes of an answer record
+--     answerRecord         the record of one word
+--     sizeOf s             the n of a sheet, from its length
+--     records              all records that an input gets
+--     streaming            what the call answers and leaves in its buffer
+-- `s` is the sheet, `ch` the choice (two bytes: r, ceiling), `input` the words end to end.
+use Prim.Native.Nat.{ℕ, suc, _+_, _*_, _-_, _/_, _^_}
+use mathlib.Core.Bool.{not}
+use mathlib.Core.List.{List, [], _∷_, _++_, flatten}
+use lib.ListN.{length, take, drop, getD, replicate}
+use lib.Dec.{eqb, ltb}
+use Rattle.bits.specs.Vectors.{pick, tab, firstPlace}
+use Rattle.meaning.specs.Limits.{largestN, recordBytes, stripWidth}
+use Rattle.meaning.specs.Answers.{numbersOf, Reply, _⇒_, firstOf, leaving, writing, decoding}
+use Rattle.meaning.specs.declared.Answer.{Answer}
+use Rattle.meaning.specs.declared.Answer.the-variants.{Done, BadShape, BadCheck, ShortOutput}
+
+-- ---- one record
+
+-- code, place, g, m, d, three zeros
+abbrev pub header : Answer → List ℕ
+header a = numbersOf a ++ (0 ∷ 0 ∷ 0 ∷ [])
+
+-- its bytes: the header, then three strips
+unfoldable pub answerBytes : ℕ
+unfolding stripWidth
+answerBytes = 8 + 3 * stripWidth
+
+-- a strip, the places past N filled with 255
+abbrev pub padded : List ℕ → List ℕ
+padded l = l ++ replicate (stripWidth - length l) 255
+
+-- the record of one word: where decoding leaves the output untouched, all of the strips is 255
+unfoldable pub answerRecord : ℕ → List ℕ → ℕ → ℕ → List ℕ → List ℕ
+answerRecord n s r c w =
+    let a = decoding n s r c w (replicate (3 * 2 ^ n) 255) in
+    let b = a .bytes in
+    header (a .answer) ++ padded (take (2 ^ n) b) ++ padded (take (2 ^ n) (drop (2 ^ n) b)) ++ padded (drop (2 * 2 ^ n) b)
+
+-- the one record of an input whose sheet or choice has a wrong length
+unfoldable pub refusedRecord : Answer → List ℕ
+refusedRecord a = header a ++ replicate (3 * stripWidth) 255
+
+-- ---- the whole input
+
+-- the n up to the largest for which the sheet is N records long, or one more than the largest
+unfoldable pub sizeOf : List ℕ → ℕ
+sizeOf s = firstPlace (λ (n : ℕ). eqb (length s) (2 ^ n * recordBytes)) (tab (suc largestN) (λ (n : ℕ). n))
+
+-- input bytes divided by N, rounded up
+unfoldable pub roundedUp : ℕ → ℕ → ℕ
+roundedUp a b = (a + (b - 1)) / b
+
+-- word k of N symbols; the last may be short
+unfoldable pub wordAt : ℕ → List ℕ → ℕ → List ℕ
+wordAt n input k = take (2 ^ n) (drop (k * 2 ^ n) input)
+
+-- record k is the answer to word k
+unfoldable pub records : List ℕ → List ℕ → List ℕ → List (List ℕ)
+records s ch input =
+    let n = sizeOf s in
+    pick (ltb largestN n) (refusedRecord BadShape ∷ [])
+    (pick (not (eqb (length ch) 2)) (refusedRecord BadCheck ∷ [])
+    (tab (roundedUp (length input) (2 ^ n)) (λ (k : ℕ). answerRecord n s (getD ch 0 0) (getD ch 1 0) (wordAt n input k))))
+
+-- an output too short for the records is refused as 16 before all else; bytes past the records stay
+unfoldable pub streaming : List ℕ → List ℕ → List ℕ → List ℕ → Reply
+streaming s ch input out =
+    let rs = records s ch input in
+    firstOf (leaving out) ((ltb (length out) (length rs * answerBytes) ⇒ ShortOutput) ∷ []) (writing (flatten rs) out Done)

@@ -1,0 +1,51 @@
+// What the vault's calls answer, and the numbers of 01-scope.md that each answer stands for.
+ghost use mathlib.Core.Path.{_≡_};
+ghost use Rattle.meaning.specs.Answers.{numbersOf};
+
+// An answer: one case for each row of 01's table, and `Done`, the 0 of the calls that have no verdict.
+pub enum Answer {
+    // 0: the call did its work.
+    Done,
+    // 0: one codeword agrees.
+    Unique { g: usize, m: usize },
+    // 1: 2 to the d codewords agree, d at least 1.
+    Ambiguous { g: usize, m: usize, d: usize },
+    // 2: no codeword agrees.
+    Inconsistent { g: usize, m: usize },
+    // 11: n is too large, or the sheet's length is not that of N records.
+    BadShape,
+    // 12: the first record that breaks a rule.
+    BadRecord { place: usize },
+    // 13: r is no check length, or there are too few free positions for it.
+    BadCheck,
+    // 14: the word or the payload is not as long as it has to be.
+    BadLength,
+    // 15: the first symbol that is none.
+    BadSymbol { place: usize },
+    // 16: the output is too short.
+    ShortOutput,
+    // 17: the ceiling is too high.
+    BadCeiling,
+    // 18: there are more unknowns than the ceiling allows.
+    TooMany { g: usize },
+}
+
+// The five numbers of an answer: code, place, unknowns g, equations m, dimension d.
+pub fn numbers(a: Answer) -> [usize; 5]
+    ensures { λ r. ⌜ r ≡ numbersOf a ⌝ }
+{
+    match a {
+        Answer::Done => [0, 0, 0, 0, 0],
+        Answer::Unique { g, m } => [0, 0, g, m, 0],
+        Answer::Ambiguous { g, m, d } => [1, 0, g, m, d],
+        Answer::Inconsistent { g, m } => [2, 0, g, m, 0],
+        Answer::BadShape => [11, 0, 0, 0, 0],
+        Answer::BadRecord { place } => [12, place, 0, 0, 0],
+        Answer::BadCheck => [13, 0, 0, 0, 0],
+        Answer::BadLength => [14, 0, 0, 0, 0],
+        Answer::BadSymbol { place } => [15, place, 0, 0, 0],
+        Answer::ShortOutput => [16, 0, 0, 0, 0],
+        Answer::BadCeiling => [17, 0, 0, 0, 0],
+        Answer::TooMany { g } => [18, 0, g, 0, 0],
+    }
+}
