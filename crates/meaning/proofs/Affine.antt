@@ -1,6 +1,6 @@
 -- The rules and the check are affine: three vectors that keep them have a sum that does. Agreement is, too.
 use mathlib.Core.Path.{_≡_, refl, sym, ap, ap₂, _∙_}
-use Prim.Native.Nat.{ℕ, zero, suc}
+use Prim.Native.Nat.{ℕ, zero, suc, _+_}
 use native.Mathlib.Omega.{arith}
 use native.Mathlib.Nat.{suc-inj}
 use mathlib.Core.Bool.{Bool, true, false, _&&_, _||_, not, false≢true}
@@ -8,10 +8,11 @@ use mathlib.Core.List.{List, [], _∷_, _++_, map}
 use lib.ListN.{length, replicate, length-append, length-map}
 use Rattle.bits.specs.Vectors.{_⊕_, _⊞_, zeros}
 use Rattle.bits.proofs.Tests.{and-l, and-r, and-i}
-use Rattle.bits.proofs.Xor.{⊕-swap, ⊞-swap, append-⊞, length-⊞, same-⊞, zeros-⊞, eq-⊕, ⊕-eq, and-⊕}
+use Rattle.bits.proofs.Xor.{⊕-swap, ⊞-swap, append-⊞, length-⊞, same-⊞, zeros-⊞, eq-⊕, ⊕-eq, and-⊕, ⊞-comm, ⊞-cancel}
 use Rattle.meaning.specs.Check.{odd, keepsRules, freeBits, shift, rest, poly, divides, keeps}
 use Rattle.meaning.specs.Codewords.{fits, agrees, erased}
 use Rattle.meaning.specs.Open.{clear}
+use Rattle.meaning.specs.Limits.{leads}
 use Rattle.meaning.specs.Sheet.{Rule, free, frozen}
 
 -- ---- lengths
@@ -109,16 +110,25 @@ module _ (u v w : List Bool) (h : length u ≡ length v) (k : length v ≡ lengt
       (⊕-eq (x ⊕ (y ⊕ z)) (o ⊕ odd n (u ⊞ (v ⊞ w))) (rw (ex, ey, ez, s) (three o (odd n u) (odd n v) (odd n w))))
       (rules-three ks a b c (suc-inj l) (suc-inj m) (and-r (not (x ⊕ (o ⊕ odd n u))) _ p) (and-r (not (y ⊕ (o ⊕ odd n v))) _ q) (and-r (not (z ⊕ (o ⊕ odd n w))) _ r))
 
+  -- the check's sequences start with the same bits
+  lead-three : (l a b c : List Bool) → l ++ (a ⊞ (b ⊞ c)) ≡ (l ++ a) ⊞ ((l ++ b) ⊞ (l ++ c))
+  lead-three l a b c =
+      sym (ap (λ (t : List Bool). (l ++ a) ⊞ t) (append-⊞ l b l c refl) ∙ append-⊞ l a (l ⊞ l) (b ⊞ c) (sym (length-⊞ l l refl))
+      ∙ ap (λ (t : List Bool). t ++ (a ⊞ (b ⊞ c))) (⊞-comm l (l ⊞ l) ∙ ⊞-cancel l l refl))
+
   pub keeps-three : (ks : List Rule) (r : ℕ) → keeps ks r u ≡ true → keeps ks r v ≡ true → keeps ks r w ≡ true → keeps ks r (u ⊞ (v ⊞ w)) ≡ true
   unfolding keeps
   keeps-three ks r p q s =
       let lvw : length u ≡ length (v ⊞ w) = h ∙ sym (length-⊞ v w k) in
       let e : freeBits ks (u ⊞ (v ⊞ w)) ≡ freeBits ks u ⊞ (freeBits ks v ⊞ freeBits ks w) = free-⊞ ks u (v ⊞ w) lvw ∙ ap (λ (t : List Bool). freeBits ks u ⊞ t) (free-⊞ ks v w k) in
+      let front : List Bool → List Bool = λ f. leads r ++ f in
+      let luv : length (front (freeBits ks u)) ≡ length (front (freeBits ks v)) = simp length-append (ap (λ (m : ℕ). length (leads r) + m) (same-free ks u v h)) in
+      let lw : length (front (freeBits ks v)) ≡ length (front (freeBits ks w)) = simp length-append (ap (λ (m : ℕ). length (leads r) + m) (same-free ks v w k)) in
       and-i _ _
       (rules-three ks u v w h k (and-l _ _ p) (and-l _ _ q) (and-l _ _ s))
-      (rw e (divides-⊞ r (freeBits ks u) (freeBits ks v ⊞ freeBits ks w)
-      (same-free ks u v h ∙ sym (length-⊞ (freeBits ks v) (freeBits ks w) (same-free ks v w k)))
-      (and-r (keepsRules ks u u) _ p) (divides-⊞ r (freeBits ks v) (freeBits ks w) (same-free ks v w k) (and-r (keepsRules ks v v) _ q) (and-r (keepsRules ks w w) _ s))))
+      (rw (e, lead-three (leads r) (freeBits ks u) (freeBits ks v) (freeBits ks w)) (divides-⊞ r (front (freeBits ks u)) (front (freeBits ks v) ⊞ front (freeBits ks w))
+      (luv ∙ sym (length-⊞ (front (freeBits ks v)) (front (freeBits ks w)) lw))
+      (and-r (keepsRules ks u u) _ p) (divides-⊞ r (front (freeBits ks v)) (front (freeBits ks w)) lw (and-r (keepsRules ks v v) _ q) (and-r (keepsRules ks w w) _ s))))
 
 -- ---- agreement
 

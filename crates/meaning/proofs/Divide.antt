@@ -11,7 +11,7 @@ use Rattle.bits.specs.Vectors.{_⊞_, zeros}
 use Rattle.bits.proofs.Xor.{⊕-false, ⊞-comm, ⊞-cancel, length-⊞, none, ⊞-none, length-none, ⊞-self, is-none, zeros-none}
 use Rattle.meaning.specs.Check.{shift, rest, poly, divides}
 use Rattle.meaning.proofs.Affine.{rest-⊞}
-use Rattle.meaning.proofs.Remainder.{rest-append, rest-small, scale-none, length-rest}
+use Rattle.meaning.proofs.Remainder.{length-poly, rest-append, rest-small, scale-none, length-rest}
 
 abbrev pub scale : Bool → List Bool → List Bool
 scale b g = map (λ (x : Bool). b && x) g
@@ -116,9 +116,10 @@ module _ (g : List Bool) where
       (b ∷ q, ap suc lq, ap {B = List Bool} (λ t. b ∷ t) (sym back ∙ ap₂ (λ (m : ℕ) (t : List Bool). (scale b g ++ none m) ⊞ t) (sym lq) eq))
 
 -- f has r bits more than the quotient
-pub divides-iff : (r k : ℕ) (f : List Bool) → length (poly r) ≡ r → length f ≡ r + k → (divides r f ≡ true) ↔ ((q : List Bool) × (length q ≡ k) × (f ≡ times (poly r) q))
+pub divides-iff : (r k : ℕ) (f : List Bool) → length f ≡ r + k → (divides r f ≡ true) ↔ ((q : List Bool) × (length q ≡ k) × (f ≡ times (poly r) q))
 unfolding none
-divides-iff r k f lr lf =
+divides-iff r k f lf =
+    let lr : length (poly r) ≡ r = length-poly r in
     let g : List Bool = poly r in
     let e : rest g (replicate r false) f ≡ rest g (none (length g)) f = ap (λ (m : ℕ). rest g (replicate m false) f) (sym lr) in
     let l = length-rest g (none (length g)) f (length-none (length g)) in (

@@ -11,9 +11,10 @@ use Rattle.bits.specs.Vectors.{_⊕_, zeros}
 use Rattle.bits.proofs.Tests.{and-l, and-r, and-i}
 use Rattle.bits.proofs.Xor.{eq-⊕, ⊕-eq}
 use Rattle.meaning.specs.Check.{odd, keepsRules, freeBits, poly, divides, keeps}
+use Rattle.meaning.specs.Limits.{leads}
 use Rattle.meaning.specs.Sheet.{Rule, free, frozen, early, frees}
 use Rattle.meaning.proofs.Gap.{odd-early}
-use Rattle.meaning.proofs.Remainder.{remainder, check-iff, length-remainder}
+use Rattle.meaning.proofs.Remainder.{length-poly, remainder, check-bits, length-remainder}
 
 -- ---- the frozen bits
 
@@ -80,17 +81,17 @@ place-unique (frozen o m ∷ ks) c (b ∷ v) h l k =
 
 -- ---- the codeword of a payload
 
-module _ (n : ℕ) (ks : List Rule) (r : ℕ) (lk : length ks ≡ 2 ^ n) (ok : early 0 ks ≡ true) (lr : length (poly r) ≡ r) (p : List Bool) (lp : length p + r ≡ frees ks) where
+module _ (n : ℕ) (ks : List Rule) (r : ℕ) (lk : length ks ≡ 2 ^ n) (ok : early 0 ks ≡ true) (p : List Bool) (lp : length p + r ≡ frees ks) where
   unfoldable pub encoded : List Bool
-  encoded = place ks [] (p ++ remainder (poly r) p)
+  encoded = place ks [] (p ++ remainder (poly r) (leads r ++ p))
 
   pub encoded-keeps : (length encoded ≡ 2 ^ n) × (keeps ks r encoded ≡ true) × (take (length p) (freeBits ks encoded) ≡ p)
   unfolding encoded keeps
   encoded-keeps =
-      let c : List Bool = remainder (poly r) p in
-      let lc : length c ≡ r = length-remainder (poly r) p ∙ lr in
+      let c : List Bool = remainder (poly r) (leads r ++ p) in
+      let lc : length c ≡ r = length-remainder (poly r) (leads r ++ p) ∙ length-poly r in
       let e : freeBits ks (place ks [] (p ++ c)) ≡ p ++ c = free-place ks [] (p ++ c) (simp length-append (omega arith)) in
-      (length-place ks [] (p ++ c) ∙ lk, and-i _ _ (keeps-place ks [] (p ++ c) ok) (rw e (check-iff r lr p c lc .1 refl)), rw e (take-at p c (length p) refl))
+      (length-place ks [] (p ++ c) ∙ lk, and-i _ _ (keeps-place ks [] (p ++ c) ok) (rw e (check-bits r p c lc .1 refl)), rw e (take-at p c (length p) refl))
 
   pub encoded-unique : (u : List Bool) → length u ≡ 2 ^ n → keeps ks r u ≡ true → take (length p) (freeBits ks u) ≡ p → u ≡ encoded
   unfolding encoded keeps
@@ -100,5 +101,5 @@ module _ (n : ℕ) (ks : List Rule) (r : ℕ) (lk : length ks ≡ 2 ^ n) (ok : e
       let lf : length f ≡ frees ks = length-free ks u (lu ∙ sym lk) in
       let lc : length c ≡ r = simp length-drop (omega arith) in
       let ef : p ++ c ≡ f = ap (λ (t : List Bool). t ++ c) (sym e) ∙ take-append-drop (length p) f in
-      let ec : c ≡ remainder (poly r) p = check-iff r lr p c lc .0 (ap (divides r) ef ∙ and-r (keepsRules ks u u) _ k) in
+      let ec : c ≡ remainder (poly r) (leads r ++ p) = check-bits r p c lc .0 (ap (λ (t : List Bool). divides r (leads r ++ t)) ef ∙ and-r (keepsRules ks u u) _ k) in
       place-unique ks [] u ok (lu ∙ sym lk) (and-l (keepsRules ks u u) _ k) ∙ ap (place ks []) (sym ef ∙ ap (λ (t : List Bool). p ++ t) ec)

@@ -9,7 +9,7 @@ use Rattle.bits.specs.Vectors.{allBits, filter, zeros}
 use Rattle.bits.proofs.Rising.{any-bits, bits-any}
 use Rattle.bits.proofs.Tests.{and-l, and-r, and-i, sub-filter}
 use Rattle.meaning.specs.Check.{keeps}
-use Rattle.meaning.specs.Codewords.{candidates, agrees, fits, erased}
+use Rattle.meaning.specs.Codewords.{codewords, candidates, agrees, fits, erased}
 use Rattle.meaning.specs.Open.{isOpenD, openDiff, isOpen, clear}
 use Rattle.meaning.specs.Sheet.{Rule}
 use Rattle.meaning.specs.Transform.{polar}
@@ -40,7 +40,7 @@ agrees-finer (s ∷ w) (t ∷ w′) (b ∷ x) f h = and-i _ _ (one (f .0)) (agre
 
 pub fewer-candidates : (n : ℕ) (ks : List Rule) (r : ℕ) (w w′ : List ℕ) → Finer w w′ → Sublistᴰ (candidates n ks r w) (candidates n ks r w′)
 unfolding candidates
-fewer-candidates n ks r w w′ f = sub-filter (agrees w) (agrees w′) (λ x h. agrees-finer w w′ x f h) (map (polar n) (filter (keeps ks r) (allBits (2 ^ n))))
+fewer-candidates n ks r w w′ f = sub-filter (agrees w) (agrees w′) (λ x h. agrees-finer w w′ x f h) (codewords n ks r)
 
 -- what is erased in es is erased in es′
 abbrev pub Fewer : List Bool → List Bool → Type 0

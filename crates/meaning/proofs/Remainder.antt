@@ -1,14 +1,17 @@
 -- Encoding: of each payload there is one codeword. The check bits are the payload's remainder after shifting by r, and the frozen bits follow.
 use mathlib.Core.Path.{_≡_, refl, sym, ap, ap₂, _∙_}
 use mathlib.Core.Logic.{_↔_}
-use Prim.Native.Nat.{ℕ, _+_}
+use Prim.Native.Nat.{ℕ, suc, _+_, _-_}
 use native.Mathlib.Omega.{arith}
+use lib.Dec.{eqb}
 use mathlib.Core.Bool.{Bool, true, false, _&&_}
 use mathlib.Core.List.{List, [], _∷_, _++_, map, append-assoc, append-nil}
 use lib.ListN.{length, replicate, length-append, length-map}
-use Rattle.bits.specs.Vectors.{_⊞_, zeros}
+use Rattle.bits.specs.Vectors.{any, _⊞_, zeros}
 use Rattle.bits.proofs.Xor.{⊞-comm, length-⊞, none, ⊞-none, length-none, ⊞-self, zeros-none, zeros-eq}
-use Rattle.meaning.specs.Check.{shift, rest, poly, divides}
+use Rattle.bits.proofs.Tests.{length-tab}
+use Rattle.meaning.specs.Limits.{leads}
+use Rattle.meaning.specs.Check.{terms, shift, rest, poly, divides}
 use Rattle.meaning.proofs.Affine.{rest-⊞}
 
 -- ---- the check
@@ -63,13 +66,22 @@ pub length-remainder : (g p : List Bool) → length (remainder g p) ≡ length g
 unfolding remainder
 length-remainder g p = length-rest g (none (length g)) (p ++ none (length g)) (length-none (length g))
 
+pub length-poly : (r : ℕ) → length (poly r) ≡ r
+unfolding poly
+length-poly r = length-tab r (λ (k : ℕ). any (eqb (r - suc k)) (terms r))
+
 -- the last r bits are the remainder of what stands before them
-pub check-iff : (r : ℕ) → length (poly r) ≡ r → (p c : List Bool) → length c ≡ r → (divides r (p ++ c) ≡ true) ↔ (c ≡ remainder (poly r) p)
+pub check-iff : (r : ℕ) (p c : List Bool) → length c ≡ r → (divides r (p ++ c) ≡ true) ↔ (c ≡ remainder (poly r) p)
 unfolding none remainder
-check-iff r lr p c lc =
+check-iff r p c lc =
+    let lr : length (poly r) ≡ r = length-poly r in
     let lg : length c ≡ length (poly r) = lc ∙ sym lr in
     let e : rest (poly r) (replicate r false) (p ++ c) ≡ remainder (poly r) p ⊞ c = ap (λ (k : ℕ). rest (poly r) (replicate k false) (p ++ c)) (sym lr) ∙ rest-check (poly r) p c lg in
     let lm : length (remainder (poly r) p) ≡ length c = length-remainder (poly r) p ∙ sym lg in (
       λ h. sym (zeros-eq (remainder (poly r) p) c lm (sym (ap zeros e) ∙ h)),
       λ h. ap zeros (e ∙ ap (λ (t : List Bool). t ⊞ c) (sym h) ∙ ⊞-self c) ∙ zeros-none (length c),
     )
+
+-- free bits that keep the check: the payload p, then its remainder after shifting by r
+pub check-bits : (r : ℕ) (p c : List Bool) → length c ≡ r → (divides r (leads r ++ (p ++ c)) ≡ true) ↔ (c ≡ remainder (poly r) (leads r ++ p))
+check-bits r p c lc = rw (← (append-assoc (leads r) p c)) (check-iff r (leads r ++ p) c lc)

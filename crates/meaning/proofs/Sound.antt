@@ -3,11 +3,11 @@ use mathlib.Core.Path.{_≡_, refl}
 use Prim.Native.Nat.{ℕ, zero, suc, _+_, _^_, _<_}
 use native.Mathlib.Omega.{arith}
 use native.Mathlib.Nat.{zero-add}
-use mathlib.Core.Bool.{Bool, true, false, _&&_, cond}
+use mathlib.Core.Bool.{Bool, true, false, _&&_}
 use mathlib.Core.List.{List, _∷_}
 use lib.ListN.{drop}
 use lib.Dec.{eqb, leb}
-use Rattle.bits.specs.Vectors.{tab, zeros}
+use Rattle.bits.specs.Vectors.{pick, tab, zeros}
 use Rattle.bits.proofs.Tests.{and-r, and-i}
 use Rattle.meaning.specs.Sheet.{Rule, free, frozen, early, byte, mask, ruleAt, rules, fine}
 
@@ -29,7 +29,7 @@ fine-early : (s : List ℕ) (i : ℕ) → fine s i ≡ true → earlyRule i (rul
 unfolding fine ruleAt
 fine-early s i h = go (eqb (byte s i 0) 0) (and-r (leb (byte s i 0) 1 && leb (byte s i 1) 1 && eqb (byte s i 2) 0 && eqb (byte s i 3) 0) _ h)
   where
-    go : (b : Bool) → cond b (eqb (byte s i 1) 0 && zeros (mask s i)) (zeros (drop i (mask s i))) ≡ true → earlyRule i (cond b free (frozen (eqb (byte s i 1) 1) (mask s i))) ≡ true
+    go : (b : Bool) → pick b (eqb (byte s i 1) 0 && zeros (mask s i)) (zeros (drop i (mask s i))) ≡ true → earlyRule i (pick b free (frozen (eqb (byte s i 1) 1) (mask s i))) ≡ true
     go true k = refl
     go false k = k
 
