@@ -1,18 +1,22 @@
 -- Encoding: of each payload there is one codeword. The check bits are the payload's remainder after shifting by r, and the frozen bits follow.
 use mathlib.Core.Path.{_≡_, refl, sym, ap, ap₂, _∙_, subst}
-use Prim.Native.Nat.{ℕ, suc, _+_, _^_}
+use Prim.Native.Nat.{ℕ, suc, _+_, _^_, _-_}
 use native.Mathlib.Omega.{arith}
 use native.Mathlib.Nat.{suc-inj}
 use mathlib.Core.Bool.{Bool, true, false, not}
-use mathlib.Core.List.{List, [], _∷_, _++_, append-assoc, append-nil}
-use lib.ListN.{length, drop, take, length-append, take-append-drop, length-drop}
+use mathlib.Core.List.{List·Memᴰ·head, List·Memᴰ·eq-of-singleton, Memᴰ·cast, List, [], _∷_, _++_, append-assoc, append-nil}
+use lib.ListN.{length, drop, take, length-append, take-append-drop, length-drop, length-take}
 use lib.Seq.{take-at}
-use Rattle.bits.specs.Vectors.{_⊕_, zeros}
+use Rattle.bits.specs.Vectors.{_⊕_, zeros, same}
 use Rattle.bits.proofs.Tests.{and-l, and-r, and-i}
-use Rattle.bits.proofs.Xor.{eq-⊕, ⊕-eq}
+use Rattle.bits.proofs.Xor.{eq-⊕, ⊕-eq, ⊞-self, zeros-none, zeros-eq}
 use Rattle.meaning.specs.Check.{odd, keepsRules, freeBits, poly, divides, keeps}
 use Rattle.meaning.specs.Limits.{leads}
 use Rattle.meaning.specs.Sheet.{Rule, free, frozen, early, frees}
+use Rattle.meaning.specs.Transform.{polar}
+use Rattle.meaning.specs.Codewords.{payloadOf, carrying}
+use Rattle.meaning.proofs.Polar.{length-polar, polar-polar}
+use Rattle.meaning.proofs.Candidates.{Codeword, earlier-unique, carrying-rise, carrying-iff}
 use Rattle.meaning.proofs.Gap.{odd-early}
 use Rattle.meaning.proofs.Remainder.{length-poly, remainder, check-bits, length-remainder}
 
@@ -103,3 +107,30 @@ module _ (n : ℕ) (ks : List Rule) (r : ℕ) (lk : length ks ≡ 2 ^ n) (ok : e
       let ef : p ++ c ≡ f = ap (λ (t : List Bool). t ++ c) (sym e) ∙ take-append-drop (length p) f in
       let ec : c ≡ remainder (poly r) (leads r ++ p) = check-bits r p c lc .0 (ap (λ (t : List Bool). divides r (leads r ++ t)) ef ∙ and-r (keepsRules ks u u) _ k) in
       place-unique ks [] u ok (lu ∙ sym lk) (and-l (keepsRules ks u u) _ k) ∙ ap (place ks []) (sym ef ∙ ap (λ (t : List Bool). p ++ t) ec)
+
+  payload-length : frees ks - r ≡ length p
+  payload-length = omega arith
+
+  same-self : (v : List Bool) → same v v ≡ true
+  same-self v = ap zeros (⊞-self v) ∙ zeros-none (length v)
+
+  -- there is one codeword with payload p
+  pub carrying-one : carrying n ks r p ≡ polar n encoded ∷ []
+  unfolding payloadOf
+  carrying-one =
+      let (le, ke, te) = encoded-keeps in
+      let one : (x : List Bool) → Codeword n ks r x → same p (payloadOf n ks r x) ≡ true → x ≡ polar n encoded =
+      λ x (lx, k) e.
+      let u : List Bool = polar n x in
+      let lu : length u ≡ 2 ^ n = length-polar n x lx in
+      let lf : length (freeBits ks u) ≡ frees ks = length-free ks u (lu ∙ sym lk) in
+      let lt : length p ≡ length (take (frees ks - r) (freeBits ks u)) = sym (simp length-take (omega arith)) in
+      let t : take (length p) (freeBits ks u) ≡ p = ap (λ (m : ℕ). take m (freeBits ks u)) (sym payload-length) ∙ sym (zeros-eq p (take (frees ks - r) (freeBits ks u)) lt e) in
+      sym (polar-polar n x lx) ∙ ap (polar n) (encoded-unique u lu k t) in
+      let back : polar n (polar n encoded) ≡ encoded = polar-polar n encoded le in
+      let is : same p (payloadOf n ks r (polar n encoded)) ≡ true =
+      ap (λ (t : List Bool). same p (take (frees ks - r) (freeBits ks t))) back ∙ ap (λ (m : ℕ). same p (take m (freeBits ks encoded))) payload-length ∙ ap (same p) te ∙ same-self p in
+      earlier-unique n (carrying n ks r p) (polar n encoded ∷ []) (carrying-rise n ks r p) (tt, tt)
+      (λ x.
+      (λ m. let (k, e) = carrying-iff n ks r p x .0 m in List·Memᴰ·head (one x k e),
+      λ m. Memᴰ·cast (List·Memᴰ·eq-of-singleton m) (carrying-iff n ks r p (polar n encoded) .1 ((length-polar n encoded le, ap (keeps ks r) back ∙ ke), is))))
