@@ -23,6 +23,14 @@ and-r false b h = absurd (false≢true h)
 pub and-i : (a b : Bool) → a ≡ true → b ≡ true → a && b ≡ true
 and-i a b p q = rw p q
 
+pub or-false-l : (a b : Bool) → a || b ≡ false → a ≡ false
+or-false-l true b h = absurd (true≢false h)
+or-false-l false b h = refl
+
+pub or-false-r : (a b : Bool) → a || b ≡ false → b ≡ false
+or-false-r true b h = absurd (true≢false h)
+or-false-r false b h = h
+
 pub bool-ext : (a b : Bool) → (a ≡ true → b ≡ true) → (b ≡ true → a ≡ true) → a ≡ b
 bool-ext true b f g = sym (f refl)
 bool-ext false true f g = g refl

@@ -12,3 +12,6 @@ pub mod Remainder
 pub mod Divide
 pub mod Encode
 pub mod Sound
+pub mod Dimension
+pub mod Refusals
+pub mod Demands

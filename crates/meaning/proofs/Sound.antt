@@ -1,15 +1,19 @@
--- A sheet with no bad record: its rules name only earlier positions.
-use mathlib.Core.Path.{_≡_, refl}
+-- A sheet with no bad record.
+--     all-fine         each of its records is fine
+--     rules-early      its rules name only earlier positions
+--     length-rules     there are N of them
+use mathlib.Core.Path.{_≡_, refl, sym, ap, _∙_}
 use Prim.Native.Nat.{ℕ, zero, suc, _+_, _^_, _<_}
 use native.Mathlib.Omega.{arith}
 use native.Mathlib.Nat.{zero-add}
-use mathlib.Core.Bool.{Bool, true, false, _&&_}
+use mathlib.Core.Bool.{Bool, true, false, _&&_, not}
 use mathlib.Core.List.{List, _∷_}
-use lib.ListN.{drop}
-use lib.Dec.{eqb, leb}
-use Rattle.bits.specs.Vectors.{pick, tab, zeros}
-use Rattle.bits.proofs.Tests.{and-r, and-i}
-use Rattle.meaning.specs.Sheet.{Rule, free, frozen, early, byte, mask, ruleAt, rules, fine}
+use lib.ListN.{length, drop}
+use lib.Dec.{eqb, leb, ltb}
+use borrow.Author.Tests.{ltb-false, not-false}
+use Rattle.bits.specs.Vectors.{pick, firstPlace, tab, zeros}
+use Rattle.bits.proofs.Tests.{and-r, and-i, length-tab, tab-at, place-first}
+use Rattle.meaning.specs.Sheet.{Rule, free, frozen, early, byte, mask, ruleAt, rules, fine, badRecord}
 
 abbrev earlyRule : ℕ → Rule → Bool
 earlyRule i free = true
@@ -33,6 +37,18 @@ fine-early s i h = go (eqb (byte s i 0) 0) (and-r (leb (byte s i 0) 1 && leb (by
     go true k = refl
     go false k = k
 
-pub rules-early : (n : ℕ) (s : List ℕ) → ((i : ℕ) → i < 2 ^ n → fine s i ≡ true) → early 0 (rules n s) ≡ true
-unfolding rules
-rules-early n s h = early-tab (2 ^ n) 0 (ruleAt s) (λ j l. rw zero-add (fine-early s j (h j l)))
+module _ (n : ℕ) (s : List ℕ) where
+  pub length-rules : length (rules n s) ≡ 2 ^ n
+  unfolding rules
+  length-rules = length-tab (2 ^ n) (ruleAt s)
+
+  module _ (h : ltb (badRecord n s) (2 ^ n) ≡ false) where
+    pub all-fine : (i : ℕ) → i < 2 ^ n → fine s i ≡ true
+    unfolding badRecord
+    all-fine i l =
+        let b : i < firstPlace not (tab (2 ^ n) (fine s)) = omega (arith, ltb-false (badRecord n s) (2 ^ n) h) in
+        not-false (fine s i) (ap not (sym (tab-at (2 ^ n) (fine s) i true l)) ∙ place-first not (tab (2 ^ n) (fine s)) true i b)
+
+    pub rules-early : early 0 (rules n s) ≡ true
+    unfolding rules
+    rules-early = early-tab (2 ^ n) 0 (ruleAt s) (λ j l. rw zero-add (fine-early s j (all-fine j l)))

@@ -1,6 +1,7 @@
 -- The answers: their five numbers, the table of refusals of each call, and what each call answers and leaves in its buffer.
 --     numbersOf a          code, place, g, m, d
 --     Refusal, firstOf     a row of a table of refusals; the first that applies is given
+--     refuses              whether a row applies
 --     Reply                an answer, and the bytes of the output buffer after the call
 --     checking             the sheet alone, with its r
 --     encoding, readingBack, decoding      the calls with a buffer
@@ -10,7 +11,7 @@ use mathlib.Core.Bool.{Bool, _&&_, _||_, not}
 use mathlib.Core.List.{List, [], _∷_, _++_, map}
 use lib.ListN.{length, drop}
 use lib.Dec.{eqb, leb, ltb}
-use Rattle.bits.specs.Vectors.{bit, pick, firstPlace}
+use Rattle.bits.specs.Vectors.{bit, pick, any, firstPlace}
 use Rattle.meaning.specs.Limits.{largestN, recordBytes, largestCeiling}
 use Rattle.meaning.specs.Sheet.{Rule, rules, badRecord, frees}
 use Rattle.meaning.specs.Codewords.{candidates, payloadOf, carrying}
@@ -52,6 +53,10 @@ abbrev pub firstOf : {A : Type 0} → (Answer → A) → List Refusal → A → 
 firstOf f [] z = z
 firstOf f (t ∷ ts) z = pick (t .applies) (f (t .answer)) (firstOf f ts z)
 
+-- whether a row applies
+abbrev pub refuses : List Refusal → Bool
+refuses ts = any (λ (t : Refusal). t .applies) ts
+
 -- 11: n above the largest, or a sheet that is not N records long
 unfoldable pub badShape : ℕ → List ℕ → Bool
 badShape n s = ltb largestN n || not (eqb (length s) (2 ^ n * recordBytes))
@@ -75,10 +80,6 @@ wordRefusals wanted top needed w out =
     ∷ (ltb (firstPlace (ltb top) w) (length w) ⇒ BadSymbol (firstPlace (ltb top) w))
     ∷ (ltb (length out) needed ⇒ ShortOutput)
     ∷ []
-
--- 17, 18: a ceiling above the largest, g above the ceiling
-unfoldable pub ceilingRefusals : ℕ → ℕ → List Refusal
-ceilingRefusals c g = (ltb largestCeiling c ⇒ BadCeiling) ∷ (ltb c g ⇒ TooMany g) ∷ []
 
 -- ---- the sheet alone
 
@@ -123,9 +124,13 @@ payloadRead n ks r (x ∷ cs) out = writing (map bit (payloadOf n ks r x)) out D
 unfoldable pub readingBack : ℕ → List ℕ → ℕ → List ℕ → List ℕ → Reply
 readingBack n s r w out = firstOf (leaving out) (readRefusals n s r w out) (payloadRead n (rules n s) r (candidates n (rules n s) r w) out)
 
--- decoding uses 11 to 18 and needs 3N bytes
+-- decoding needs 3N bytes. 11 to 17: a fault of form, or no room to answer
+unfoldable pub formRefusals : ℕ → List ℕ → ℕ → ℕ → List ℕ → List ℕ → List Refusal
+formRefusals n s r c w out = sheetRefusals n s r ++ wordRefusals (2 ^ n) 2 (3 * 2 ^ n) w out ++ ((ltb largestCeiling c ⇒ BadCeiling) ∷ [])
+
+-- 11 to 18: then g above the ceiling
 unfoldable pub decodeRefusals : ℕ → List ℕ → ℕ → ℕ → List ℕ → List ℕ → List Refusal
-decodeRefusals n s r c w out = sheetRefusals n s r ++ wordRefusals (2 ^ n) 2 (3 * 2 ^ n) w out ++ ceilingRefusals c (unknowns n (rules n s) w)
+decodeRefusals n s r c w out = let g = unknowns n (rules n s) w in formRefusals n s r c w out ++ ((ltb c g ⇒ TooMany g) ∷ [])
 
 -- none agrees, one does, or several do
 unfoldable pub verdict : ℕ → ℕ → ℕ → List (List Bool) → List ℕ → Reply
