@@ -15,3 +15,4 @@ pub mod Sound
 pub mod Dimension
 pub mod Refusals
 pub mod Demands
+pub mod Bench
