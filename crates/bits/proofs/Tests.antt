@@ -6,8 +6,8 @@ use native.Mathlib.Omega.{arith}
 use native.Mathlib.Nat.{zero-add}
 use mathlib.Core.Bool.{Bool, true, false, _&&_, _||_, false≢true, true≢false}
 use mathlib.Core.List.{List, [], _∷_, _++_, map, Sublistᴰ, Sublistᴰ·slnil, Sublistᴰ·cons, Sublistᴰ·cons-cons, List·Memᴰ, List·Memᴰ·head, List·Memᴰ·tail, List·Memᴰ·not-nil, List·Memᴰ·cases-cons}
-use lib.ListN.{length, drop, getD}
-use lib.Seq.{drop-cons, drop-nil}
+use lib.ListN.{length, drop, getD, drop-of-length-le}
+use lib.Seq.{drop-cons}
 use Rattle.bits.specs.Vectors.{filter, keep, any, all, count, bit, pick, firstPlace, tab}
 
 -- ---- tests
@@ -174,16 +174,11 @@ module _ {A : Type 0} (p : A → Bool) (l : List A) (i : ℕ) (d : A) (h : i < l
   all-next e = rw (drop-cons l i d h, e)
 
 module _ {A : Type 0} (p : A → Bool) where
-  drop-end : (l : List A) (i : ℕ) → length l ≤ i → drop i l ≡ []
-  drop-end [] i h = drop-nil i
-  drop-end (a ∷ l) zero h = absurd (omega arith)
-  drop-end (a ∷ l) (suc i) h = drop-end l i (omega arith)
-
   pub place-end : (l : List A) (i : ℕ) → length l ≤ i → i + firstPlace p (drop i l) ≡ i
-  place-end l i h = rw (drop-end l i h) (omega arith)
+  place-end l i h = rw (drop-of-length-le l h) (omega arith)
 
   pub all-end : (l : List A) (i : ℕ) → length l ≤ i → all p (drop i l) ≡ true
-  all-end l i h = rw (drop-end l i h)
+  all-end l i h = rw (drop-of-length-le l h)
 
   pub place-le : (l : List A) → firstPlace p l ≤ length l
   place-le [] = omega arith

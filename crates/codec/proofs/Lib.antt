@@ -1,0 +1,3 @@
+-- Records: a record's rules in the parts that the code tests. Checking: what checking a sheet answers, refusal by refusal.
+pub mod Records
+pub mod Checking

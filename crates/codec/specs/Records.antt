@@ -1,0 +1,15 @@
+-- The rules for a record in the parts that the code tests: its first four bytes, and the positions that it may not name.
+use Prim.Native.Nat.{ℕ}
+use mathlib.Core.Bool.{Bool, _&&_}
+use mathlib.Core.List.{List}
+use lib.Dec.{eqb, leb}
+use Rattle.bits.specs.Vectors.{pick}
+use Rattle.meaning.specs.Sheet.{byte}
+
+-- byte 0 is 0 or 1, byte 1 is 0 or, in a frozen record, 1, bytes 2 and 3 are zero
+unfoldable pub headFine : List ℕ → ℕ → Bool
+headFine s i = leb (byte s i 0) 1 && leb (byte s i 1) (byte s i 0) && eqb (byte s i 2) 0 && eqb (byte s i 3) 0
+
+-- the first position that record i may not name
+unfoldable pub barred : List ℕ → ℕ → ℕ
+barred s i = pick (eqb (byte s i 0) 0) 0 i
