@@ -12,7 +12,6 @@ use mathlib.Core.List.{List, [], _∷_, _++_, map}
 
 infixl 40 _⊕_
 infixl 40 _⊞_
-
 -- the XOR of two bits
 abbrev pub _⊕_ : Bool → Bool → Bool
 true ⊕ b = not b

@@ -11,7 +11,9 @@ ghost use Rattle.meaning.specs.Answers.{badCheck};
 ghost use Rattle.codec.specs.Records.{headFine, barred};
 
 pub const LARGEST_N: usize = 7;
+
 pub const RECORD: usize = 20;
+
 pub const POSITIONS: usize = 128;
 
 // N, 2 to the n.

@@ -265,13 +265,15 @@ module _ (n : ℕ) (s : List ℕ) (r : ℕ) (w w′ : List ℕ) (e : map erased 
                 let l₂ : 0 < length cs₂ = code-small (length cs₂) (rw (at 0 b) at q) in
                 let (x, mx) = head-in cs₁ l₁ in
                 let (y, my) = head-in cs₂ l₂ in
-                let l : length cs₁ ≡ length cs₂ = same-number n (rules n s) r w w′ e x y mx my in
-                (at 0 a ∙ ap codeBy l ∙ sym (at 0 b), at 4 a ∙ ap dBy l ∙ sym (at 4 b),
-                λ j k.
-                let t = same-settled n (rules n s) r w w′ e x y mx my j in
-                let u = verdict-settled n g₁ m₁ out cs₁ l₁ j k in
-                let v = verdict-settled n g₂ m₂ out′ cs₂ l₂ j k in
-                (λ z. v ∙ t .0 (sym u ∙ z), λ z. u ∙ t .1 (sym v ∙ z)));
+                let l : length cs₁ ≡ length cs₂ = same-number n (rules n s) r w w′ e x y mx my in (
+                  at 0 a ∙ ap codeBy l ∙ sym (at 0 b),
+                  at 4 a ∙ ap dBy l ∙ sym (at 4 b),
+                  λ j k.
+                      let t = same-settled n (rules n s) r w w′ e x y mx my j in
+                      let u = verdict-settled n g₁ m₁ out cs₁ l₁ j k in
+                      let v = verdict-settled n g₂ m₂ out′ cs₂ l₂ j k in
+                      (λ z. v ∙ t .0 (sym u ∙ z), λ z. u ∙ t .1 (sym v ∙ z)),
+                );
           }
 
       go : (b : Bool) → ltb c g₁ ≡ b → SameFate n (decoding n s r c w out) (decoding n s r c w′ out′)

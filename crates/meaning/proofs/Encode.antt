@@ -131,6 +131,7 @@ module _ (n : ℕ) (ks : List Rule) (r : ℕ) (lk : length ks ≡ 2 ^ n) (ok : e
       let is : same p (payloadOf n ks r (polar n encoded)) ≡ true =
       ap (λ (t : List Bool). same p (take (frees ks - r) (freeBits ks t))) back ∙ ap (λ (m : ℕ). same p (take m (freeBits ks encoded))) payload-length ∙ ap (same p) te ∙ same-self p in
       earlier-unique n (carrying n ks r p) (polar n encoded ∷ []) (carrying-rise n ks r p) (tt, tt)
-      (λ x.
-      (λ m. let (k, e) = carrying-iff n ks r p x .0 m in List·Memᴰ·head (one x k e),
-      λ m. Memᴰ·cast (List·Memᴰ·eq-of-singleton m) (carrying-iff n ks r p (polar n encoded) .1 ((length-polar n encoded le, ap (keeps ks r) back ∙ ke), is))))
+      (λ x. (
+        λ m. let (k, e) = carrying-iff n ks r p x .0 m in List·Memᴰ·head (one x k e),
+        λ m. Memᴰ·cast (List·Memᴰ·eq-of-singleton m) (carrying-iff n ks r p (polar n encoded) .1 ((length-polar n encoded le, ap (keeps ks r) back ∙ ke), is)),
+      ))

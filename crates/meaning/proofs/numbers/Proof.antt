@@ -1,8 +1,7 @@
 -- `numbers` gives the five numbers of each case.
 use mathlib.Core.Path.{sym, ap}
+use borrow.Author.Needs.{needs}
 use Rattle.meaning.specs.Answers.{numbersOf}
-use borrow.Author.Needs.{needs}
-use borrow.Author.Needs.{needs}
 use Rattle.meaning.proofs.numbers.Statement.{statement}
 use Rattle.meaning.proofs.numbers.Tie as tie
 

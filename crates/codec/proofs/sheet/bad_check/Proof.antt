@@ -1,25 +1,18 @@
 use mathlib.Core.Logic.{⊎-elim}
 use mathlib.Core.Path.{sym}
 use borrow.Author.Tests.{eqb-true, not-true, not-false}
-use Rattle.codec.proofs.Records.{no-length, six, eleven}
 use Rattle.meaning.specs.Answers.{badCheck}
-use borrow.Author.Needs.{needs}
-use native.Mathlib.Omega.{arith}
+use Rattle.codec.proofs.Records.{no-length, six, eleven}
 use Rattle.codec.proofs.sheet.bad_check.Statement.{statement}
 use Rattle.codec.proofs.sheet.bad_check.Tie as tie
-use Rattle.codec.proofs.sheet.bad_check.Reads as reads
-use Rattle.codec.proofs.sheet.bad_check.Lts as lts
 
--- src/sheet.rt:109:9
 returns : tie.Need-returns
 unfolding badCheck
 returns c = rw (c .if1 .taken)
 
--- src/sheet.rt:112:9
 returns-2 : tie.Need-returns-2
 returns-2 c = sym (no-length _ _ (c .before .before .if1 .left) (c .before .if2 .taken) (not-true _ (c .if3 .taken)))
 
--- src/sheet.rt:105:1
 returns-3 : tie.Need-returns-3
 returns-3 c =
     ⊎-elim (λ w. sym (eleven _ _ (eqb-true _ 11 (not-false _ (w .1 .left))))) (λ w. sym (six _ _ (w .left))) (c .if2 .came)

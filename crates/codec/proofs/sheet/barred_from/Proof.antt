@@ -1,26 +1,19 @@
 use mathlib.Core.Path.{sym, _∙_}
+use native.Mathlib.Omega.{arith}
 use borrow.Author.Tests.{eq-eqb, ne-eqb}
 use Rattle.meaning.specs.Limits.{recordBytes, maskBytes}
 use Rattle.codec.specs.Records.{barred}
-use borrow.Author.Needs.{needs}
-use native.Mathlib.Omega.{arith}
 use Rattle.codec.proofs.sheet.barred_from.Statement.{statement}
 use Rattle.codec.proofs.sheet.barred_from.Tie as tie
-use Rattle.codec.proofs.sheet.barred_from.Reads as reads
-use Rattle.codec.proofs.sheet.barred_from.Lts as lts
-use Rattle.codec.proofs.sheet.byte_at.Reads as byte-at-reads
 
--- src/sheet.rt:63:8
 byte-at-requires : tie.Need-byte-at-requires
 unfolding recordBytes maskBytes
 byte-at-requires c κs = omega arith
 
--- src/sheet.rt:59:1
 returns : tie.Need-returns
 unfolding barred
 returns c = rw (eq-eqb _ 0 (sym (c .before .byte-at .ensures) ∙ c .if1 .taken))
 
--- src/sheet.rt:59:1
 returns-2 : tie.Need-returns-2
 unfolding barred
 returns-2 c = rw (ne-eqb _ 0 (λ e. c .if1 .left (c .before .byte-at .ensures ∙ e)))

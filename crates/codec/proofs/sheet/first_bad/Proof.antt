@@ -1,22 +1,16 @@
 use mathlib.Core.Path.{_≡_, sym, _∙_}
 use mathlib.Core.Bool.{true}
-use Prim.Native.Nat.{_+_, _*_, _-_, _≤_}
+use Prim.Native.Nat.{_-_, _≤_}
+use native.Mathlib.Omega.{arith}
 use lib.ListN.{drop}
 use borrow.Author.Tests.{not-true, not-false}
-use Rattle.bits.specs.Vectors.{tab, zeros}
+use Rattle.bits.specs.Vectors.{zeros}
 use Rattle.meaning.specs.Limits.{recordBytes, maskBytes}
-use Rattle.meaning.specs.Sheet.{mask, fine}
+use Rattle.meaning.specs.Sheet.{mask}
 use Rattle.codec.specs.Records.{headFine, barred}
 use Rattle.codec.proofs.Records.{Left, stops, goes-on, ends, head-bad, mask-bad, both-fine, named, not-named, mask-end}
-use borrow.Author.Needs.{needs}
-use native.Mathlib.Omega.{arith}
 use Rattle.codec.proofs.sheet.first_bad.Statement.{statement}
 use Rattle.codec.proofs.sheet.first_bad.Tie as tie
-use Rattle.codec.proofs.sheet.first_bad.Reads as reads
-use Rattle.codec.proofs.sheet.first_bad.Lts as lts
-use Rattle.codec.proofs.sheet.barred_from.Reads as barred-from-reads
-use Rattle.codec.proofs.sheet.has_name.Reads as has-name-reads
-use Rattle.codec.proofs.sheet.head_fine.Reads as head-fine-reads
 
 abbrev Inv-loop : tie.InvT-loop
 Inv-loop sheet size i j₀ j = (headFine sheet i ≡ true) × (zeros (drop j (mask sheet i)) ≡ zeros (drop (barred sheet i) (mask sheet i)))
@@ -30,38 +24,30 @@ Inv-records sheet size i₀ i = (i ≤ size) × Left sheet size i i
 abbrev μ-records : tie.MeasureT-records
 μ-records sheet size i₀ i = size - i
 
--- src/sheet.rt:72:5
 records-holds : tie.Need-records-holds Inv-loop μ-loop Inv-records μ-records
 records-holds c = (omega arith, omega arith)
 
--- src/sheet.rt:73:13
 head-fine-requires : tie.Need-head-fine-requires Inv-loop μ-loop Inv-records μ-records
 unfolding recordBytes maskBytes
 head-fine-requires c κs = omega arith
 
--- src/sheet.rt:76:13
 barred-from-requires : tie.Need-barred-from-requires Inv-loop μ-loop Inv-records μ-records
 unfolding recordBytes maskBytes
 barred-from-requires c κs = omega arith
 
--- src/sheet.rt:77:9
 loop-holds : tie.Need-loop-holds Inv-loop μ-loop Inv-records μ-records
 loop-holds c = (sym (c .before .before .head-fine .ensures) ∙ not-false _ (c .before .if1 .left), rw (c .barred-from .ensures))
 
--- src/sheet.rt:78:16
 has-name-requires : tie.Need-has-name-requires Inv-loop μ-loop Inv-records μ-records
 unfolding recordBytes maskBytes
 has-name-requires c κs = omega arith
 
--- src/sheet.rt:81:13
 add-j : tie.Need-add-j Inv-loop μ-loop Inv-records μ-records
 add-j c = omega arith
 
--- src/sheet.rt:77:9
 loop-less : tie.Need-loop-less Inv-loop μ-loop Inv-records μ-records
 loop-less c = omega arith
 
--- src/sheet.rt:77:9
 loop-again : tie.Need-loop-again Inv-loop μ-loop Inv-records μ-records
 unfolding maskBytes
 loop-again c =
@@ -70,15 +56,12 @@ loop-again c =
     let inv = turn .before .loop .inv in
     (inv .0, sym (not-named _ _ _ (turn .loop-test .taken) (sym (call .has-name .ensures) ∙ c .if2 .left)) ∙ inv .1)
 
--- src/sheet.rt:83:9
 add-i : tie.Need-add-i Inv-loop μ-loop Inv-records μ-records
 add-i c = omega arith
 
--- src/sheet.rt:72:5
 records-less : tie.Need-records-less Inv-loop μ-loop Inv-records μ-records
 records-less c = omega arith
 
--- src/sheet.rt:72:5
 records-again : tie.Need-records-again Inv-loop μ-loop Inv-records μ-records
 unfolding maskBytes
 records-again c =
@@ -86,17 +69,14 @@ records-again c =
     let turn = c .before .before .before .before .before in
     (omega arith, goes-on _ _ _ (turn .records-test .taken) (both-fine _ _ (inv .0) (sym (inv .1) ∙ mask-end _ _ (c .before .loop .j) (c .loop-test .left))) (turn .before .records .inv .1))
 
--- src/sheet.rt:67:1
 returns : tie.Need-returns Inv-loop μ-loop Inv-records μ-records
 returns c = ends _ _ _ (c .records-test .left) (c .before .records .inv .1)
 
--- src/sheet.rt:67:1
 returns-2 : tie.Need-returns-2 Inv-loop μ-loop Inv-records μ-records
 returns-2 c =
     let turn = c .before .before in
     stops _ _ _ (turn .records-test .taken) (head-bad _ _ (sym (c .before .head-fine .ensures) ∙ not-true _ (c .if1 .taken))) (turn .before .records .inv .1)
 
--- src/sheet.rt:67:1
 returns-3 : tie.Need-returns-3 Inv-loop μ-loop Inv-records μ-records
 unfolding maskBytes
 returns-3 c =

@@ -1,17 +1,11 @@
 use mathlib.Core.Path.{sym, _∙_}
 use mathlib.Core.Logic.{⊎-elim}
-use Prim.Native.Nat.{_+_, _-_, _≤_}
-use Rattle.bits.specs.Vectors.{tab}
-use Rattle.meaning.specs.Limits.{recordBytes, maskBytes}
-use Rattle.meaning.specs.Sheet.{frees, ruleAt}
-use Rattle.codec.proofs.Records.{Counted, one-free, one-frozen, all-counted}
-use borrow.Author.Needs.{needs}
+use Prim.Native.Nat.{_-_, _≤_}
 use native.Mathlib.Omega.{arith}
+use Rattle.meaning.specs.Limits.{recordBytes, maskBytes}
+use Rattle.codec.proofs.Records.{Counted, one-free, one-frozen, all-counted}
 use Rattle.codec.proofs.sheet.frees.Statement.{statement}
 use Rattle.codec.proofs.sheet.frees.Tie as tie
-use Rattle.codec.proofs.sheet.frees.Reads as reads
-use Rattle.codec.proofs.sheet.frees.Lts as lts
-use Rattle.codec.proofs.sheet.byte_at.Reads as byte-at-reads
 
 abbrev Inv-loop : tie.InvT-loop
 Inv-loop sheet size k₀ i₀ k i = (i ≤ size) × (k ≤ i) × Counted sheet size i k i k
@@ -19,43 +13,36 @@ Inv-loop sheet size k₀ i₀ k i = (i ≤ size) × (k ≤ i) × Counted sheet s
 abbrev μ-loop : tie.MeasureT-loop
 μ-loop sheet size k₀ i₀ k i = size - i
 
--- src/sheet.rt:95:5
 loop-holds : tie.Need-loop-holds Inv-loop μ-loop
 loop-holds c = (omega arith, omega arith, omega arith)
 
--- src/sheet.rt:96:12
 byte-at-requires : tie.Need-byte-at-requires Inv-loop μ-loop
 unfolding recordBytes maskBytes
 byte-at-requires c κs = omega arith
 
--- src/sheet.rt:97:13
 add-k : tie.Need-add-k Inv-loop μ-loop
 unfolding recordBytes maskBytes
 add-k c = omega arith
 
--- src/sheet.rt:99:9
 add-i : tie.Need-add-i Inv-loop μ-loop
 unfolding recordBytes maskBytes
 add-i c = omega arith
 
--- src/sheet.rt:95:5
 loop-less : tie.Need-loop-less Inv-loop μ-loop
 unfolding recordBytes maskBytes
 loop-less c = omega arith
 
--- src/sheet.rt:95:5
 loop-again : tie.Need-loop-again Inv-loop μ-loop
 loop-again c =
     let call = c .before in
     let turn = call .before in
     let inv = turn .before .loop .inv in
     let lt = turn .loop-test .taken in
-    ⊎-elim 
+    ⊎-elim
     (λ w. (omega arith, omega arith, rw (w .1) (one-free _ _ _ _ lt (sym (call .byte-at .ensures) ∙ w .0 .taken) (inv .2))))
     (λ w. (omega arith, omega arith, rw (w .1) (one-frozen _ _ _ _ lt (λ e. w .0 .left (call .byte-at .ensures ∙ e)) (inv .2))))
     (c .if1 .came)
 
--- src/sheet.rt:89:1
 returns : tie.Need-returns Inv-loop μ-loop
 returns c = all-counted _ _ (c .before .loop .i) _ (c .loop-test .left) (c .before .loop .inv .2)
 

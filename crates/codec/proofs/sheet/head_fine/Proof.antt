@@ -1,49 +1,37 @@
-use Rattle.meaning.specs.Limits.{recordBytes, maskBytes}
 use mathlib.Core.Path.{ap, sym, _∙_}
 use Prim.Native.Nat.{ℕ}
-use lib.Dec.{eqb}
-use Rattle.codec.proofs.Records.{head-kind, head-constant, head-two, head-last}
-use borrow.Author.Needs.{needs}
 use native.Mathlib.Omega.{arith}
+use lib.Dec.{eqb}
+use Rattle.meaning.specs.Limits.{recordBytes, maskBytes}
+use Rattle.codec.proofs.Records.{head-kind, head-constant, head-two, head-last}
 use Rattle.codec.proofs.sheet.head_fine.Statement.{statement}
 use Rattle.codec.proofs.sheet.head_fine.Tie as tie
-use Rattle.codec.proofs.sheet.head_fine.Reads as reads
-use Rattle.codec.proofs.sheet.head_fine.Lts as lts
-use Rattle.codec.proofs.sheet.byte_at.Reads as byte-at-reads
 
--- src/sheet.rt:47:9
 byte-at-requires : tie.Need-byte-at-requires
 unfolding recordBytes maskBytes
 byte-at-requires c κs = omega arith
 
--- src/sheet.rt:49:9
 returns : tie.Need-returns
 returns c = head-kind _ _ (rw (c .before .byte-at .ensures) at (c .if1 .taken))
 
--- src/sheet.rt:51:8
 byte-at-requires-2 : tie.Need-byte-at-requires-2
 unfolding recordBytes maskBytes
 byte-at-requires-2 c κs = omega arith
 
--- src/sheet.rt:52:9
 returns-2 : tie.Need-returns-2
 returns-2 c = head-constant _ _ (rw (c .before .before .before .byte-at .ensures, c .before .byte-at2 .ensures) at (c .if2 .taken))
 
--- src/sheet.rt:54:8
 byte-at-requires-3 : tie.Need-byte-at-requires-3
 unfolding recordBytes maskBytes
 byte-at-requires-3 c κs = omega arith
 
--- src/sheet.rt:55:9
 returns-3 : tie.Need-returns-3
 returns-3 c = head-two _ _ (λ e. c .if3 .taken (c .before .byte-at3 .ensures ∙ e))
 
--- src/sheet.rt:57:5
 byte-at-requires-4 : tie.Need-byte-at-requires-4
 unfolding recordBytes maskBytes
 byte-at-requires-4 c κs = omega arith
 
--- src/sheet.rt:43:1
 returns-4 : tie.Need-returns-4
 returns-4 c =
     let two = c .before .before in

@@ -1,20 +1,15 @@
 use Prim.Native.Nat.{_^_}
 use native.Mathlib.Nat.{one-mul, mod-eq-of-lt}
+use native.Mathlib.Omega.{arith}
 use lib.Pow.{pow-lt}
 use Rattle.meaning.specs.Limits.{largestN}
-use borrow.Author.Needs.{needs}
-use native.Mathlib.Omega.{arith}
 use Rattle.codec.proofs.sheet.size_of.Statement.{statement}
 use Rattle.codec.proofs.sheet.size_of.Tie as tie
-use Rattle.codec.proofs.sheet.size_of.Reads as reads
-use Rattle.codec.proofs.sheet.size_of.Lts as lts
 
--- src/sheet.rt:22:5
 shl-result : tie.Need-shl-result
 unfolding largestN
 shl-result c = omega arith
 
--- src/sheet.rt:18:1
 returns : tie.Need-returns
 unfolding largestN
 returns c = rw (one-mul (2 ^ c .args .n)) (mod-eq-of-lt (pow-lt {j = 64} (omega arith)))

@@ -1,0 +1,206 @@
+// The five calls: each gives its five numbers and fills its output buffer, or leaves it as found.
+// Checks run in the order 11 to 18 and the first that applies is given.
+
+use crate::answer::Answer;
+use crate::code::{checked_sequence, free_bits, keeps, remainder, rule, transform, Agreeing};
+use crate::limits::{HEADER_BYTES, LARGEST_CEILING, LARGEST_EXPONENT, RECORD_BYTES, STRIP_BYTES};
+use crate::sheet::Sheet;
+use crate::{brute, dense, open};
+
+/// Bytes of one answer record of the stream.
+pub const ANSWER_BYTES: usize = HEADER_BYTES + 3 * STRIP_BYTES;
+
+/// 14 for another length, 15 for the first value above the largest.
+fn form(bytes: &[u8], length: usize, largest: u8) -> Result<(), Answer> {
+    if bytes.len() != length {
+        return Err(Answer::code(14));
+    }
+    match bytes.iter().position(|&value| value > largest) {
+        Some(place) => Err(Answer::at(15, place)),
+        None => Ok(()),
+    }
+}
+
+/// 16 for an output shorter than needed.
+fn room(out: &[u8], needed: usize) -> Result<(), Answer> {
+    if out.len() < needed {
+        return Err(Answer::code(16));
+    }
+    Ok(())
+}
+
+fn put(out: &mut [u8], bits: &[bool]) {
+    for (byte, &bit) in out.iter_mut().zip(bits) {
+        *byte = u8::from(bit);
+    }
+}
+
+/// The agreeing codewords by the dense system, held to the trial of every u where N is small.
+fn agreeing(sheet: &Sheet, r: usize, word: &[u8]) -> Option<Agreeing> {
+    let found = dense::agreeing(sheet, r, word);
+    if word.len() <= brute::LARGEST_TRIED {
+        assert_eq!(found, brute::agreeing(sheet, r, word), "dense and brute");
+    }
+    found
+}
+
+/// The open positions, held to the trial of every pair where N is small.
+fn open_positions(word: &[u8]) -> Vec<bool> {
+    let found = open::open_positions(word);
+    if word.len() <= brute::LARGEST_TRIED {
+        assert_eq!(found, brute::open_positions(word), "open positions");
+    }
+    found
+}
+
+/// Whether the sheet is good, with its check length.
+pub fn check_sheet(n: usize, sheet: &[u8], r: usize) -> Answer {
+    match Sheet::read(n, sheet, r) {
+        Ok(_) => Answer::code(0),
+        Err(refusal) => refusal,
+    }
+}
+
+/// Writes the codeword of a payload.
+pub fn encode(n: usize, sheet: &[u8], r: usize, payload: &[u8], out: &mut [u8]) -> Answer {
+    encoded(n, sheet, r, payload, out).unwrap_or_else(|refusal| refusal)
+}
+
+fn encoded(
+    n: usize,
+    sheet: &[u8],
+    r: usize,
+    payload: &[u8],
+    out: &mut [u8],
+) -> Result<Answer, Answer> {
+    let sheet = Sheet::read(n, sheet, r)?;
+    form(payload, sheet.k() - r, 1)?;
+    room(out, sheet.length())?;
+    let mut bits: Vec<bool> = payload.iter().map(|&bit| bit == 1).collect();
+    let mut shifted = checked_sequence(&bits, r);
+    shifted.extend(vec![false; r]);
+    bits.extend(remainder(&shifted, r));
+    let mut u = vec![false; sheet.length()];
+    let mut next = bits.into_iter();
+    for (i, record) in sheet.records.iter().enumerate() {
+        u[i] = if record.frozen {
+            rule(record, &u)
+        } else {
+            next.next().expect("K bits")
+        };
+    }
+    assert!(keeps(&sheet, r, &u), "the encoder keeps rules and check");
+    put(out, &transform(&u));
+    Ok(Answer::code(0))
+}
+
+/// Writes the settled strip, the first and the last agreeing codeword.
+pub fn decode(
+    n: usize,
+    sheet: &[u8],
+    r: usize,
+    ceiling: usize,
+    word: &[u8],
+    out: &mut [u8],
+) -> Answer {
+    decoded(n, sheet, r, ceiling, word, out).unwrap_or_else(|refusal| refusal)
+}
+
+fn decoded(
+    n: usize,
+    sheet: &[u8],
+    r: usize,
+    ceiling: usize,
+    word: &[u8],
+    out: &mut [u8],
+) -> Result<Answer, Answer> {
+    let sheet = Sheet::read(n, sheet, r)?;
+    let length = sheet.length();
+    form(word, length, 2)?;
+    room(out, 3 * length)?;
+    if ceiling > LARGEST_CEILING {
+        return Err(Answer::code(17));
+    }
+    let (g, m) = open::counts(&sheet, r, &open_positions(word));
+    if g > ceiling {
+        return Err(Answer::counted(18, g, 0, 0));
+    }
+    let Some(found) = agreeing(&sheet, r, word) else {
+        return Ok(Answer::counted(2, g, m, 0));
+    };
+    out[..length].copy_from_slice(&found.settled);
+    put(&mut out[length..], &transform(&found.first));
+    put(&mut out[2 * length..], &transform(&found.last));
+    let code = if found.d == 0 { 0 } else { 1 };
+    Ok(Answer::counted(code, g, m, found.d))
+}
+
+/// Writes the payload of a whole codeword; 2 where the word is not one.
+pub fn read_back(n: usize, sheet: &[u8], r: usize, word: &[u8], out: &mut [u8]) -> Answer {
+    payload_read(n, sheet, r, word, out).unwrap_or_else(|refusal| refusal)
+}
+
+fn payload_read(
+    n: usize,
+    sheet: &[u8],
+    r: usize,
+    word: &[u8],
+    out: &mut [u8],
+) -> Result<Answer, Answer> {
+    let sheet = Sheet::read(n, sheet, r)?;
+    form(word, sheet.length(), 1)?;
+    let payload = sheet.k() - r;
+    room(out, payload)?;
+    let Some(found) = agreeing(&sheet, r, word) else {
+        return Ok(Answer::code(2));
+    };
+    put(out, &free_bits(&sheet, &found.first)[..payload]);
+    Ok(Answer::code(0))
+}
+
+/// One answer record of the stream: the numbers, then three strips padded with 255.
+/// `strips` holds the output of decoding, or nothing where it was left untouched.
+fn answer_record(answer: Answer, strips: &[u8], length: usize) -> Vec<u8> {
+    let mut record = vec![0; HEADER_BYTES];
+    for (byte, number) in record.iter_mut().zip(answer.numbers()) {
+        *byte = u8::try_from(number).expect("a number of one byte");
+    }
+    record.resize(ANSWER_BYTES, 255);
+    let places = record[HEADER_BYTES..].chunks_mut(STRIP_BYTES);
+    for (place, strip) in places.zip(strips.chunks(length)) {
+        place[..length].copy_from_slice(strip);
+    }
+    record
+}
+
+/// The records that a stream of words is answered with.
+fn answer_records(sheet: &[u8], choice: &[u8], input: &[u8]) -> Vec<u8> {
+    let alone = |code| answer_record(Answer::code(code), &[], 1);
+    let Some(n) = (0..=LARGEST_EXPONENT).find(|n| sheet.len() == RECORD_BYTES << n) else {
+        return alone(11);
+    };
+    let &[r, ceiling] = choice else {
+        return alone(13);
+    };
+    let length = 1 << n;
+    let mut records = Vec::new();
+    for word in input.chunks(length) {
+        let mut strips = vec![0; 3 * length];
+        let answer = decode(n, sheet, r.into(), ceiling.into(), word, &mut strips);
+        let written = if answer.code <= 1 { &strips[..] } else { &[] };
+        records.extend(answer_record(answer, written, length));
+    }
+    records
+}
+
+/// Writes one answer record for each word of the input, the cut-off last one too.
+pub fn stream(sheet: &[u8], choice: &[u8], input: &[u8], out: &mut [u8]) -> Answer {
+    let records = answer_records(sheet, choice, input);
+    match room(out, records.len()) {
+        Ok(()) => {
+            out[..records.len()].copy_from_slice(&records);
+            Answer::code(0)
+        }
+        Err(refusal) => refusal,
+    }
+}

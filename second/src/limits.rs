@@ -1,0 +1,25 @@
+// The numbers that a later request may move, each named in this one place.
+// A code has N = 2^n symbols; positions count from 0.
+
+/// The largest n.
+pub const LARGEST_EXPONENT: usize = 7;
+
+/// Bytes of the mask in a sheet record; position j is bit j mod 8 of byte j div 8.
+pub const MASK_BYTES: usize = 16;
+
+/// Bytes of a sheet record: kind, constant, two zeros, mask.
+pub const RECORD_BYTES: usize = 20;
+
+/// The largest ceiling on unknowns.
+pub const LARGEST_CEILING: usize = 63;
+
+/// Bytes of one strip in an answer record of the stream.
+pub const STRIP_BYTES: usize = 128;
+
+/// Bytes in front of the strips in an answer record of the stream.
+pub const HEADER_BYTES: usize = 8;
+
+/// How many ones stand in front of the free bits when the check polynomial divides: none.
+pub fn leading_ones(_r: usize) -> usize {
+    0
+}

@@ -1,0 +1,357 @@
+// The requests that go into the vectors, list by list; each list has its own seed, so that a new
+// list changes no other. So far they reach op 0, check_sheet.
+
+use crate::limits::{LARGEST_EXPONENT, MASK_BYTES, RECORD_BYTES};
+use crate::make::{bytes, faults_at, good, name, spoil, Fault, Style, STYLES};
+use crate::protocol::Request;
+use crate::rng::Rng;
+use crate::sheet::Record;
+
+/// The check lengths of the scope.
+const CHECKS: [usize; 3] = [0, 6, 11];
+
+/// Some that are not, among them ones whose low byte is.
+const WRONG_CHECKS: [usize; 18] = [
+    1, 2, 3, 4, 5, 7, 8, 9, 10, 12, 13, 17, 255, 256, 262, 267, 1536, 65535,
+];
+
+/// Every request, in its order.
+pub fn all() -> Vec<Request> {
+    [
+        lengths(),
+        large_exponents(),
+        good_sheets(),
+        full_sheets(),
+        first_bad_places(),
+        mask_bits(),
+        single_bytes(),
+        several_bad(),
+        random_bytes(),
+        wrong_checks(),
+        small_k(),
+        refusal_order(),
+    ]
+    .concat()
+}
+
+/// A request of op 0; the ceiling is not looked at and the output is never written.
+fn check_sheet(rng: &mut Rng, n: usize, sheet: Vec<u8>, r: usize) -> Request {
+    Request {
+        op: 0,
+        n: n as u16,
+        r: r as u16,
+        ceiling: if rng.below(8) == 0 { 65535 } else { 0 },
+        a: sheet,
+        o: if rng.below(8) == 0 {
+            rng.within(1, 9)
+        } else {
+            0
+        },
+        ..Request::default()
+    }
+}
+
+fn any_style(rng: &mut Rng) -> Style {
+    STYLES[rng.below(STYLES.len())]
+}
+
+/// A good sheet of N = 2^n records with any K.
+fn any_sheet(rng: &mut Rng, n: usize) -> Vec<u8> {
+    let k = rng.within(0, 1 << n);
+    let style = any_style(rng);
+    good(rng, 1 << n, k, style)
+}
+
+/// Spoils record i by any fault it can have.
+fn spoil_somehow(rng: &mut Rng, sheet: &mut [u8], i: usize) {
+    let faults = faults_at(sheet.len() / RECORD_BYTES, i);
+    let fault = faults[rng.below(faults.len())];
+    spoil(rng, sheet, i, fault);
+}
+
+/// Sheets of every N, right, too short and too long.
+fn lengths() -> Vec<Request> {
+    let mut rng = Rng::new(1);
+    let mut list = Vec::new();
+    for n in 0..=LARGEST_EXPONENT {
+        let right = RECORD_BYTES << n;
+        for length in [
+            0,
+            1,
+            right / 2,
+            right - RECORD_BYTES,
+            right - 1,
+            right,
+            right + 1,
+            right + RECORD_BYTES,
+            2 * right,
+        ] {
+            let mut sheet = any_sheet(&mut rng, n);
+            sheet.resize(length, 0);
+            list.push(check_sheet(&mut rng, n, sheet, 0));
+        }
+    }
+    list
+}
+
+/// n above the largest, with lengths that a shift by n cut short or overflowing would allow.
+fn large_exponents() -> Vec<Request> {
+    let mut rng = Rng::new(2);
+    let mut list = Vec::new();
+    let next = LARGEST_EXPONENT + 1;
+    for n in [
+        next,
+        next + 1,
+        next + 2,
+        15,
+        16,
+        31,
+        32,
+        32 + LARGEST_EXPONENT,
+        61,
+        62,
+        63,
+        64,
+        64 + LARGEST_EXPONENT,
+        127,
+        128,
+        255,
+        256,
+        256 + LARGEST_EXPONENT,
+        32768,
+        65535,
+    ] {
+        for sheet in [
+            Vec::new(),
+            any_sheet(&mut rng, 0),
+            any_sheet(&mut rng, LARGEST_EXPONENT),
+        ] {
+            list.push(check_sheet(&mut rng, n, sheet, 0));
+        }
+    }
+    let twice = vec![0; RECORD_BYTES << next];
+    list.push(check_sheet(&mut rng, next, twice.clone(), 0));
+    list.push(check_sheet(&mut rng, LARGEST_EXPONENT, twice, 0));
+    list
+}
+
+/// Good sheets of every N, style and check length; with a check, K above r where N allows it.
+fn good_sheets() -> Vec<Request> {
+    let mut rng = Rng::new(3);
+    let mut list = Vec::new();
+    for n in 0..=LARGEST_EXPONENT {
+        for r in CHECKS {
+            for style in STYLES {
+                for _ in 0..if n < 6 { 6 } else { 5 } {
+                    let least = (r + 1).min(1 << n);
+                    let k = rng.within(if r == 0 { 0 } else { least }, 1 << n);
+                    let sheet = good(&mut rng, 1 << n, k, style);
+                    list.push(check_sheet(&mut rng, n, sheet, r));
+                }
+            }
+        }
+    }
+    list
+}
+
+/// All free; all frozen; every record but the first naming the one before it, or all before it.
+fn full_sheets() -> Vec<Request> {
+    let mut rng = Rng::new(4);
+    let mut list = Vec::new();
+    for n in 0..=LARGEST_EXPONENT {
+        let frozen = |i: usize, named: Vec<usize>| Record {
+            frozen: true,
+            constant: i % 3 == 1,
+            named,
+        };
+        let sheets: [Vec<Record>; 4] = [
+            vec![Record::default(); 1 << n],
+            (0..1 << n).map(|i| frozen(i, Vec::new())).collect(),
+            (0..1 << n)
+                .map(|i| frozen(i, (i.max(1) - 1..i).collect()))
+                .collect(),
+            (0..1 << n).map(|i| frozen(i, (0..i).collect())).collect(),
+        ];
+        for records in sheets {
+            for r in CHECKS {
+                list.push(check_sheet(&mut rng, n, bytes(&records), r));
+            }
+        }
+    }
+    list
+}
+
+/// Every place of every N as the first bad one, by several kinds of fault, naming itself always
+/// among them; every other time a later record is bad too.
+fn first_bad_places() -> Vec<Request> {
+    let mut rng = Rng::new(5);
+    let mut list = Vec::new();
+    for n in 0..=LARGEST_EXPONENT {
+        let kinds = match n {
+            0..=3 => usize::MAX,
+            4 => 6,
+            5 => 4,
+            6 => 3,
+            _ => 2,
+        };
+        for place in 0..1 << n {
+            let mut faults = faults_at(1 << n, place);
+            let turn = place % faults.len();
+            faults.rotate_left(turn);
+            faults.retain(|&fault| fault != Fault::NamesItself);
+            faults.insert(0, Fault::NamesItself);
+            for (count, fault) in faults.into_iter().take(kinds).enumerate() {
+                let mut sheet = any_sheet(&mut rng, n);
+                spoil(&mut rng, &mut sheet, place, fault);
+                if count % 2 == 1 && place + 1 < 1 << n {
+                    let later = rng.within(place + 1, (1 << n) - 1);
+                    spoil_somehow(&mut rng, &mut sheet, later);
+                }
+                let r = CHECKS[list.len() % 3];
+                list.push(check_sheet(&mut rng, n, sheet, r));
+            }
+        }
+    }
+    list
+}
+
+/// Every bit of the mask: alone in a frozen record, in a free one, and around the border in the
+/// longest sheet.
+fn mask_bits() -> Vec<Request> {
+    let mut rng = Rng::new(6);
+    let mut list = Vec::new();
+    for j in 0..8 * MASK_BYTES {
+        for (n, i, frozen) in [(0, 0, true), (2, 3, true), (1, 1, false)] {
+            let mut sheet = vec![0; RECORD_BYTES << n];
+            sheet[RECORD_BYTES * i] = u8::from(frozen);
+            name(&mut sheet, i, j);
+            list.push(check_sheet(&mut rng, n, sheet, 0));
+        }
+    }
+    for byte in 0..MASK_BYTES {
+        let n = LARGEST_EXPONENT;
+        let j = 8 * byte + rng.below(8);
+        for i in [j, (j + 1).min((1 << n) - 1)] {
+            let mut sheet = vec![0; RECORD_BYTES << n];
+            sheet[RECORD_BYTES * i] = 1;
+            name(&mut sheet, i, j);
+            list.push(check_sheet(&mut rng, n, sheet, 0));
+        }
+    }
+    list
+}
+
+/// N = 1: each byte of a free and of a frozen record alone set to a few values.
+fn single_bytes() -> Vec<Request> {
+    let mut rng = Rng::new(7);
+    let mut list = Vec::new();
+    for kind in [0, 1] {
+        for at in 0..RECORD_BYTES {
+            for value in [1, 2, 128, 255] {
+                let mut sheet = vec![0; RECORD_BYTES];
+                sheet[0] = kind;
+                sheet[at] = value;
+                list.push(check_sheet(&mut rng, 0, sheet, 0));
+            }
+        }
+    }
+    list
+}
+
+/// Up to five bad records, of which the first is reported.
+fn several_bad() -> Vec<Request> {
+    let mut rng = Rng::new(8);
+    let mut list = Vec::new();
+    for n in 1..=LARGEST_EXPONENT {
+        for _ in 0..if n < 6 { 25 } else { 10 } {
+            let mut sheet = any_sheet(&mut rng, n);
+            for _ in 0..rng.within(2, 5) {
+                let i = rng.below(1 << n);
+                spoil_somehow(&mut rng, &mut sheet, i);
+            }
+            let r = CHECKS[rng.below(3)];
+            list.push(check_sheet(&mut rng, n, sheet, r));
+        }
+    }
+    list
+}
+
+/// Good sheets with one byte set to any value, which may or may not break a rule.
+fn random_bytes() -> Vec<Request> {
+    let mut rng = Rng::new(9);
+    let mut list = Vec::new();
+    for n in 0..=LARGEST_EXPONENT {
+        for _ in 0..if n < 6 { 30 } else { 10 } {
+            let mut sheet = any_sheet(&mut rng, n);
+            let at = rng.below(sheet.len());
+            sheet[at] = rng.below(256) as u8;
+            list.push(check_sheet(&mut rng, n, sheet, 0));
+        }
+    }
+    list
+}
+
+/// Check lengths that are not of the scope, on good sheets.
+fn wrong_checks() -> Vec<Request> {
+    let mut rng = Rng::new(10);
+    let mut list = Vec::new();
+    for r in WRONG_CHECKS {
+        for n in [0, 3, 5, LARGEST_EXPONENT] {
+            let sheet = any_sheet(&mut rng, n);
+            list.push(check_sheet(&mut rng, n, sheet, r));
+        }
+    }
+    list
+}
+
+/// K = 0, r - 1, r and r + 1, as far as N allows it; K = 0 also without a check.
+fn small_k() -> Vec<Request> {
+    let mut rng = Rng::new(11);
+    let mut list = Vec::new();
+    for n in 0..=LARGEST_EXPONENT {
+        for style in STYLES {
+            let sheet = good(&mut rng, 1 << n, 0, style);
+            list.push(check_sheet(&mut rng, n, sheet, 0));
+            for r in [6, 11] {
+                for k in [0, r - 1, r, r + 1] {
+                    if k <= 1 << n {
+                        let sheet = good(&mut rng, 1 << n, k, style);
+                        list.push(check_sheet(&mut rng, n, sheet, r));
+                    }
+                }
+            }
+        }
+    }
+    list
+}
+
+/// Several refusals apply at once, in every combination of 11 (two ways), 12 and 13 (two ways).
+fn refusal_order() -> Vec<Request> {
+    let mut rng = Rng::new(12);
+    let mut list = Vec::new();
+    for n in 0..=LARGEST_EXPONENT {
+        for length_fault in 0..3 {
+            for bad_record in [false, true] {
+                for r in [0, 11, 5] {
+                    let k = if r == 11 { 11.min(1 << n) } else { 1 };
+                    let style = any_style(&mut rng);
+                    let mut sheet = good(&mut rng, 1 << n, k, style);
+                    if bad_record {
+                        let i = rng.below(1 << n);
+                        spoil_somehow(&mut rng, &mut sheet, i);
+                    }
+                    if length_fault == 1 {
+                        sheet.push(0);
+                    }
+                    let past = if length_fault == 2 {
+                        LARGEST_EXPONENT + 1
+                    } else {
+                        0
+                    };
+                    list.push(check_sheet(&mut rng, n + past, sheet, r));
+                }
+            }
+        }
+    }
+    list
+}

@@ -1,0 +1,77 @@
+// The code sheet: N records read from their bytes and held to the rules of the sheet,
+// with the refusals 11 (length), 12 (bad record) and 13 (check length, or K too small).
+
+use crate::answer::Answer;
+use crate::code::polynomial;
+use crate::limits::{LARGEST_EXPONENT, RECORD_BYTES};
+
+/// Record i: u_i is free, or frozen by its rule.
+#[derive(Clone, Debug, Default, PartialEq, Eq)]
+pub struct Record {
+    pub frozen: bool,
+    pub constant: bool,
+    /// The positions the mask names, rising.
+    pub named: Vec<usize>,
+}
+
+#[derive(Clone, Debug, PartialEq, Eq)]
+pub struct Sheet {
+    pub records: Vec<Record>,
+}
+
+impl Record {
+    /// Record i from its bytes, or nothing where it breaks a rule.
+    fn read(i: usize, bytes: &[u8]) -> Option<Record> {
+        let (head, mask) = bytes.split_at(4);
+        let record = Record {
+            frozen: head[0] == 1,
+            constant: head[1] == 1,
+            named: (0..8 * mask.len())
+                .filter(|j| mask[j / 8] >> (j % 8) & 1 == 1)
+                .collect(),
+        };
+        let form = head[0] <= 1 && head[1] <= 1 && head[2] == 0 && head[3] == 0;
+        let rule = if record.frozen {
+            record.named.iter().all(|&j| j < i)
+        } else {
+            !record.constant && record.named.is_empty()
+        };
+        (form && rule).then_some(record)
+    }
+}
+
+impl Sheet {
+    /// The sheet of N = 2^n records with its check length r, or the first refusal of 11, 12, 13.
+    pub fn read(n: usize, bytes: &[u8], r: usize) -> Result<Sheet, Answer> {
+        if n > LARGEST_EXPONENT || bytes.len() != RECORD_BYTES << n {
+            return Err(Answer::code(11));
+        }
+        let records = bytes
+            .chunks(RECORD_BYTES)
+            .enumerate()
+            .map(|(i, record)| Record::read(i, record).ok_or(Answer::at(12, i)))
+            .collect::<Result<Vec<Record>, Answer>>()?;
+        let sheet = Sheet { records };
+        if polynomial(r).is_none() || (r > 0 && sheet.k() <= r) {
+            return Err(Answer::code(13));
+        }
+        Ok(sheet)
+    }
+
+    /// N.
+    pub fn length(&self) -> usize {
+        self.records.len()
+    }
+
+    /// The free positions, rising.
+    pub fn free(&self) -> Vec<usize> {
+        (0..self.length())
+            .filter(|&i| !self.records[i].frozen)
+            .collect()
+    }
+
+    /// K, the number of free positions.
+    pub fn k(&self) -> usize {
+        self.free().len()
+    }
+}

@@ -1,0 +1,428 @@
+// The five calls: what was written reads back, and every refusal comes in its fixed order with
+// the output as found.
+
+mod common;
+use common::{any_codeword, any_sheet, bits, damaged, decode, numbers, symbols, BEFORE};
+use second::answer::Answer;
+use second::calls::{self, ANSWER_BYTES};
+use second::make::{good, STYLES};
+use second::rng::Rng;
+use second::sheet::Sheet;
+
+#[test]
+fn written_reads_back() {
+    let mut rng = Rng::new(1);
+    for n in 0..=7 {
+        for r in [0, 6, 11].into_iter().filter(|&r| r < 1 << n) {
+            for _ in 0..20 {
+                let (sheet, read) = any_sheet(&mut rng, n, r);
+                let payload = bits(&mut rng, read.k() - r);
+                let mut word = vec![BEFORE; (1 << n) + 2];
+                let answer = calls::encode(n, &sheet, r, &payload, &mut word);
+                assert_eq!(answer, Answer::code(0));
+                assert_eq!(word.split_off(1 << n), [BEFORE; 2]);
+                let mut out = vec![BEFORE; payload.len() + 2];
+                let answer = calls::read_back(n, &sheet, r, &word, &mut out);
+                assert_eq!(answer, Answer::code(0));
+                assert_eq!(out[..payload.len()], payload);
+                assert_eq!(out[payload.len()..], [BEFORE; 2]);
+                let (answer, strips) = decode(n, &sheet, r, 0, &word);
+                let m = (1 << n) - read.k() + r;
+                assert_eq!(answer, numbers(0, 0, 0, m as u16, 0));
+                assert_eq!(strips, Some([(); 3].map(|()| word.clone())));
+            }
+        }
+    }
+}
+
+#[test]
+fn damaged_words_keep_what_was_stored() {
+    let mut rng = Rng::new(2);
+    let mut unique = 0;
+    for n in 3..=7 {
+        for r in [0, 6, 11].into_iter().filter(|&r| r < 1 << n) {
+            for round in 0..30 {
+                let (sheet, _) = any_sheet(&mut rng, n, r);
+                let word = any_codeword(&mut rng, n, &sheet, r);
+                let damaged = damaged(&mut rng, &word, round % 4);
+                let (answer, strips) = decode(n, &sheet, r, 63, &damaged);
+                let Some([settled, first, last]) = strips else {
+                    assert_eq!(answer.code, 18);
+                    continue;
+                };
+                for (j, &symbol) in settled.iter().enumerate() {
+                    assert!(symbol == 2 || symbol == word[j]);
+                }
+                if answer.code == 0 {
+                    assert_eq!((&settled, &first, &last), (&word, &word, &word));
+                    unique += usize::from(damaged != word);
+                }
+            }
+        }
+    }
+    assert!(unique > 50, "{unique}");
+}
+
+#[test]
+fn a_word_is_a_codeword_or_not() {
+    let mut rng = Rng::new(3);
+    let mut seen = [0; 3];
+    for n in 0..=7 {
+        for r in [0, 6, 11].into_iter().filter(|&r| r < 1 << n) {
+            for _ in 0..30 {
+                let (sheet, read) = any_sheet(&mut rng, n, r);
+                let mut word = any_codeword(&mut rng, n, &sheet, r);
+                word[rng.below(1 << n)] ^= 1;
+                let mut out = vec![BEFORE; read.k() - r];
+                let answer = calls::read_back(n, &sheet, r, &word, &mut out);
+                assert_eq!(answer, Answer::code(answer.code));
+                let mut again = vec![BEFORE; 1 << n];
+                let is_codeword = answer.code == 0
+                    && calls::encode(n, &sheet, r, &out, &mut again).code == 0
+                    && again == word;
+                assert_eq!(answer.code == 0, is_codeword);
+                assert!(is_codeword || out.iter().all(|&byte| byte == BEFORE));
+                assert_eq!(decode(n, &sheet, r, 0, &word).0.code, answer.code);
+                seen[usize::from(answer.code)] += 1;
+            }
+        }
+    }
+    assert!(seen[0] > 10 && seen[2] > 200, "{seen:?}");
+}
+
+/// The faults of a call as a set: whether the one with this code is in it.
+fn has(set: usize, code: u16) -> bool {
+    set >> (code - 11) & 1 == 1
+}
+
+/// The first refusal of a set of faults.
+fn first(set: usize) -> Option<u16> {
+    (11..=18).find(|&code| has(set, code))
+}
+
+/// N = 128, K = 100; the sheet, n and r with the faults 11, 12 and 13 of the set.
+fn faulty_sheet(rng: &mut Rng, set: usize) -> (usize, Vec<u8>, usize) {
+    let k = if has(set, 13) { 11 } else { 100 };
+    let mut sheet = good(rng, 128, k, STYLES[3]);
+    if has(set, 12) {
+        sheet[20 * 77 + 3] = 1;
+        sheet[20 * 90] = 2;
+    }
+    if has(set, 11) {
+        sheet.pop();
+    }
+    (7, sheet, 11)
+}
+
+/// A good vector with the faults 14 and 15 of the set.
+fn faulty_form(mut vector: Vec<u8>, set: usize, bad: u8) -> Vec<u8> {
+    if has(set, 15) {
+        vector[5] = bad;
+        vector[9] = 255;
+    }
+    if has(set, 14) {
+        vector.push(0);
+    }
+    vector
+}
+
+/// What a refusal answers: the places of 12 and 15 are those put in above.
+fn refusal(code: u16, g: u16) -> Answer {
+    match code {
+        12 => Answer::at(12, 77),
+        15 => Answer::at(15, 5),
+        18 => numbers(18, 0, g, 0, 0),
+        code => Answer::code(code),
+    }
+}
+
+fn buffer(needed: usize, set: usize) -> Vec<u8> {
+    vec![BEFORE; if has(set, 16) { needed - 1 } else { needed }]
+}
+
+fn untouched(out: &[u8]) -> bool {
+    out.iter().all(|&byte| byte == BEFORE)
+}
+
+#[test]
+fn check_sheet_refuses_in_order() {
+    let mut rng = Rng::new(4);
+    for set in 0..1 << 3 {
+        let (n, sheet, r) = faulty_sheet(&mut rng, set);
+        let expected = first(set).map_or(Answer::code(0), |code| refusal(code, 0));
+        assert_eq!(calls::check_sheet(n, &sheet, r), expected, "{set:b}");
+    }
+}
+
+#[test]
+fn encode_refuses_in_order() {
+    let mut rng = Rng::new(5);
+    for set in 0..1 << 6 {
+        let (n, sheet, r) = faulty_sheet(&mut rng, set);
+        let payload = faulty_form(bits(&mut rng, 89), set, 2);
+        let mut out = buffer(128, set);
+        let answer = calls::encode(n, &sheet, r, &payload, &mut out);
+        let expected = first(set).map_or(Answer::code(0), |code| refusal(code, 0));
+        assert_eq!(answer, expected, "{set:b}");
+        assert_eq!(untouched(&out), set != 0);
+    }
+}
+
+#[test]
+fn decode_refuses_in_order() {
+    let mut rng = Rng::new(6);
+    for set in 0..1 << 8 {
+        let (n, sheet, r) = faulty_sheet(&mut rng, set);
+        let word = if has(set, 18) {
+            vec![2; 128]
+        } else if first(set).is_none_or(|code| code > 13) {
+            any_codeword(&mut rng, n, &sheet, r)
+        } else {
+            vec![0; 128]
+        };
+        let word = faulty_form(word, set, 3);
+        let ceiling = if has(set, 17) { 64 } else { 63 };
+        let mut out = buffer(384, set);
+        let answer = calls::decode(n, &sheet, r, ceiling, &word, &mut out);
+        let expected = match first(set) {
+            Some(code) => refusal(code, 100),
+            None => numbers(0, 0, 0, 39, 0),
+        };
+        assert_eq!(answer, expected, "{set:b}");
+        assert_eq!(untouched(&out), set != 0);
+    }
+}
+
+#[test]
+fn read_back_refuses_in_order() {
+    let mut rng = Rng::new(7);
+    for set in 0..1 << 6 {
+        let (n, sheet, r) = faulty_sheet(&mut rng, set);
+        let codeword = if first(set).is_none_or(|code| code > 13) {
+            any_codeword(&mut rng, n, &sheet, r)
+        } else {
+            vec![0; 128]
+        };
+        let word = faulty_form(codeword.clone(), set, 2);
+        let mut out = buffer(89, set);
+        let answer = calls::read_back(n, &sheet, r, &word, &mut out);
+        let expected = first(set).map_or(Answer::code(0), |code| refusal(code, 0));
+        assert_eq!(answer, expected, "{set:b}");
+        assert_eq!(untouched(&out), set != 0);
+        // a word that is none comes after the refusals
+        if has(set, 16) && !has(set, 14) && !has(set, 15) && first(set) == Some(16) {
+            let mut none = codeword;
+            none[127] ^= 1;
+            let answer = calls::read_back(n, &sheet, r, &none, &mut out);
+            assert_eq!(answer, Answer::code(16));
+        }
+    }
+}
+
+#[test]
+fn sheets_at_the_border() {
+    let free = vec![0; 40 * 128];
+    for n in 0..=7 {
+        let right = 20 << n;
+        for (length, code) in [
+            (right, 0),
+            (right - 1, 11),
+            (right + 1, 11),
+            (right + 20, 11),
+        ] {
+            assert_eq!(
+                calls::check_sheet(n, &free[..length], 0),
+                Answer::code(code)
+            );
+        }
+    }
+    assert_eq!(calls::check_sheet(8, &free, 0), Answer::code(11));
+    for n in [63, 64, 256, 65535] {
+        for length in [0, 20, 2560] {
+            assert_eq!(calls::check_sheet(n, &free[..length], 0), Answer::code(11));
+        }
+    }
+    let mut rng = Rng::new(8);
+    for r in [6, 11] {
+        for k in [0, 1, r - 1, r, r + 1, 32] {
+            let sheet = good(&mut rng, 32, k, STYLES[3]);
+            let code = if k <= r { 13 } else { 0 };
+            assert_eq!(calls::check_sheet(5, &sheet, r), Answer::code(code));
+        }
+    }
+    for r in (0..300).chain([65535]) {
+        let code = if [0, 6, 11].contains(&r) { 0 } else { 13 };
+        assert_eq!(calls::check_sheet(7, &free[..2560], r), Answer::code(code));
+    }
+}
+
+#[test]
+fn every_single_bit_of_a_record() {
+    // a lone mask bit j in record i of N = 128 is good exactly when frozen and j < i
+    for i in [0, 1, 7, 8, 63, 64, 126, 127] {
+        for j in 0..128 {
+            for kind in [0, 1] {
+                let mut sheet = vec![0; 2560];
+                sheet[20 * i] = kind;
+                sheet[20 * i + 4 + j / 8] = 1 << (j % 8);
+                let good = kind == 1 && j < i;
+                let expected = if good {
+                    Answer::code(0)
+                } else {
+                    Answer::at(12, i)
+                };
+                assert_eq!(calls::check_sheet(7, &sheet, 0), expected);
+                if good {
+                    let read = Sheet::read(7, &sheet, 0).expect("a good sheet");
+                    assert_eq!(read.records[i].named, [j]);
+                }
+            }
+        }
+    }
+    for at in 0..4 {
+        for value in 0..=255 {
+            for kind in [0, 1] {
+                let mut sheet = vec![0; 40];
+                sheet[20] = kind;
+                sheet[20 + at] = value;
+                let good = match at {
+                    0 => value <= 1,
+                    1 => value <= kind,
+                    _ => value == 0,
+                };
+                let expected = if good {
+                    Answer::code(0)
+                } else {
+                    Answer::at(12, 1)
+                };
+                assert_eq!(calls::check_sheet(1, &sheet, 0), expected);
+            }
+        }
+    }
+}
+
+#[test]
+fn ceiling_at_its_edges() {
+    let free = vec![0; 2560];
+    for lost in [0, 1, 62, 63, 64, 128] {
+        let word: Vec<u8> = (0..128).map(|j| if j < lost { 2 } else { 0 }).collect();
+        for ceiling in [0, 1, 61, 62, 63] {
+            let code = match lost {
+                _ if lost > ceiling => 18,
+                0 => 0,
+                _ => 1,
+            };
+            let d = if code == 1 { lost } else { 0 };
+            let answer = decode(7, &free, 0, ceiling, &word).0;
+            assert_eq!(answer, numbers(code, 0, lost as u16, 0, d as u16));
+        }
+        for ceiling in [64, 255, 65535] {
+            assert_eq!(decode(7, &free, 0, ceiling, &word).0, Answer::code(17));
+        }
+    }
+}
+
+/// One record of a stream, made from decoding its word alone.
+fn alone(n: usize, sheet: &[u8], r: usize, ceiling: usize, word: &[u8]) -> Vec<u8> {
+    let (answer, strips) = decode(n, sheet, r, ceiling, word);
+    let mut record: Vec<u8> = answer.numbers().map(|number| number as u8).to_vec();
+    record.extend([0; 3]);
+    for s in 0..3 {
+        let mut strip = strips
+            .as_ref()
+            .map_or(Vec::new(), |strips| strips[s].clone());
+        strip.resize(128, 255);
+        record.extend(strip);
+    }
+    record
+}
+
+#[test]
+fn every_word_of_a_stream_has_its_own_record() {
+    let mut rng = Rng::new(9);
+    let mut codes = std::collections::BTreeSet::new();
+    for n in 0..=7 {
+        for (r, ceiling) in [(0, 63), (6, 3), (11, 63), (0, 64), (5, 63), (6, 255)] {
+            let k = rng.within((r + 1).min(1 << n), 1 << n);
+            let mut sheet = good(&mut rng, 1 << n, k, STYLES[3]);
+            if r == 11 && n % 2 == 0 {
+                sheet[20 * ((1 << n) - 1) + 2] = 9;
+            }
+            let mut input = Vec::new();
+            for count in 0..6 {
+                let losses = rng.below(8);
+                let word = if n > 3 && count % 2 == 0 && Sheet::read(n, &sheet, r).is_ok() {
+                    any_codeword(&mut rng, n, &sheet, r)
+                } else {
+                    bits(&mut rng, 1 << n)
+                };
+                input.extend(damaged(&mut rng, &word, losses));
+            }
+            let at = rng.below(input.len());
+            input[at] = 3;
+            input.truncate(input.len() - rng.below(1 << n));
+            let expected: Vec<Vec<u8>> = (input.chunks(1 << n))
+                .map(|word| alone(n, &sheet, r, ceiling, word))
+                .collect();
+            assert_eq!(expected.len(), 6, "rounded up");
+            codes.extend(expected.iter().map(|record| record[0]));
+            let expected = expected.concat();
+            let mut out = vec![BEFORE; expected.len() + 4];
+            let choice = [r as u8, ceiling as u8];
+            let answer = calls::stream(&sheet, &choice, &input, &mut out);
+            assert_eq!(answer, Answer::code(0));
+            assert_eq!(out.split_off(expected.len()), [BEFORE; 4]);
+            assert!(out == expected, "n {n} r {r}");
+        }
+    }
+    assert!(
+        [0, 1, 2, 12, 13, 14, 15, 17, 18]
+            .iter()
+            .all(|code| codes.contains(code)),
+        "{codes:?}"
+    );
+}
+
+#[test]
+fn streams_that_read_no_word() {
+    let input = symbols("0101");
+    let free = vec![0; 5120];
+    let lone = |code: u8| {
+        let mut record = vec![255; ANSWER_BYTES];
+        record[..8].copy_from_slice(&[code, 0, 0, 0, 0, 0, 0, 0]);
+        record
+    };
+    for (sheet, choice, expected) in [
+        (0, 2, lone(11)),
+        (19, 2, lone(11)),
+        (60, 0, lone(11)),
+        (5120, 2, lone(11)),
+        (40, 0, lone(13)),
+        (40, 1, lone(13)),
+        (2560, 3, lone(13)),
+    ] {
+        for input in [&input[..], &[]] {
+            let mut out = vec![BEFORE; 392 + 1];
+            let answer = calls::stream(&free[..sheet], &[0; 3][..choice], input, &mut out);
+            assert_eq!(answer, Answer::code(0));
+            assert_eq!(out.pop(), Some(BEFORE));
+            assert_eq!(out, expected, "sheet {sheet}, choice {choice}");
+            let mut short = vec![BEFORE; 391];
+            let answer = calls::stream(&free[..sheet], &[0; 3][..choice], input, &mut short);
+            assert_eq!(answer, Answer::code(16));
+            assert!(untouched(&short));
+        }
+    }
+    let answer = calls::stream(&free[..40], &[0, 63], &[], &mut []);
+    assert_eq!(
+        answer,
+        Answer::code(0),
+        "no word, no record, no room needed"
+    );
+    for (room, code) in [(0, 16), (783, 16), (784, 0)] {
+        let mut out = vec![BEFORE; room];
+        let answer = calls::stream(&free[..40], &[0, 63], &input[..3], &mut out);
+        assert_eq!(answer, Answer::code(code));
+        assert_eq!(untouched(&out), code == 16);
+    }
+}

@@ -1,0 +1,88 @@
+// What the tests share: sheet E, random words and sheets, and calls on a marked buffer.
+#![allow(dead_code)] // each test file uses a part of it
+
+use second::answer::Answer;
+use second::calls;
+use second::limits::RECORD_BYTES;
+use second::make::{good, STYLES};
+use second::rng::Rng;
+use second::sheet::Sheet;
+
+/// What a buffer holds before a call.
+pub const BEFORE: u8 = 165;
+
+/// u_0 = u_1 = u_2 = 0 and u_4 = u_3, written out byte by byte.
+pub fn sheet_e() -> Vec<u8> {
+    let mut sheet = vec![0; 8 * RECORD_BYTES];
+    for i in [0, 1, 2, 4] {
+        sheet[RECORD_BYTES * i] = 1;
+    }
+    sheet[RECORD_BYTES * 4 + 4] = 8;
+    sheet
+}
+
+/// The symbols of a text such as 02200220.
+pub fn symbols(text: &str) -> Vec<u8> {
+    text.bytes().map(|digit| digit - b'0').collect()
+}
+
+pub fn numbers(code: u16, place: u16, g: u16, m: u16, d: u16) -> Answer {
+    Answer {
+        code,
+        place,
+        g,
+        m,
+        d,
+    }
+}
+
+/// A good sheet of any style whose K is above r, as bytes and as read.
+pub fn any_sheet(rng: &mut Rng, n: usize, r: usize) -> (Vec<u8>, Sheet) {
+    let k = rng.within(if r == 0 { 0 } else { r + 1 }, 1 << n);
+    let style = STYLES[rng.below(STYLES.len())];
+    let bytes = good(rng, 1 << n, k, style);
+    let sheet = Sheet::read(n, &bytes, r).expect("a good sheet");
+    (bytes, sheet)
+}
+
+pub fn bits(rng: &mut Rng, length: usize) -> Vec<u8> {
+    (0..length).map(|_| rng.below(2) as u8).collect()
+}
+
+/// The word with each symbol erased at a chance of `losses` in eight.
+pub fn damaged(rng: &mut Rng, word: &[u8], losses: usize) -> Vec<u8> {
+    word.iter()
+        .map(|&symbol| if rng.below(8) < losses { 2 } else { symbol })
+        .collect()
+}
+
+/// The codeword of a payload drawn at random.
+pub fn any_codeword(rng: &mut Rng, n: usize, bytes: &[u8], r: usize) -> Vec<u8> {
+    let sheet = Sheet::read(n, bytes, r).expect("a good sheet");
+    let payload = bits(rng, sheet.k() - r);
+    let mut word = vec![BEFORE; 1 << n];
+    let answer = calls::encode(n, bytes, r, &payload, &mut word);
+    assert_eq!(answer, Answer::code(0));
+    word
+}
+
+/// Decodes into a buffer five bytes longer than needed, and holds that these stay.
+pub fn decode(
+    n: usize,
+    sheet: &[u8],
+    r: usize,
+    ceiling: usize,
+    word: &[u8],
+) -> (Answer, Option<[Vec<u8>; 3]>) {
+    let length = 1 << n;
+    let mut out = vec![BEFORE; 3 * length + 5];
+    let answer = calls::decode(n, sheet, r, ceiling, word, &mut out);
+    assert_eq!(out[3 * length..], [BEFORE; 5]);
+    let strips = [0, 1, 2].map(|s| out[s * length..(s + 1) * length].to_vec());
+    if answer.code <= 1 {
+        (answer, Some(strips))
+    } else {
+        assert!(out.iter().all(|&byte| byte == BEFORE), "untouched");
+        (answer, None)
+    }
+}

@@ -1,0 +1,259 @@
+// The dense system held to the trial of every u, the open positions to the trial of every pair,
+// and what depends on the losses alone.
+
+mod common;
+use common::{any_codeword, any_sheet, bits, damaged, decode};
+use second::make::bytes;
+use second::rng::Rng;
+use second::sheet::{Record, Sheet};
+use second::{brute, dense, open};
+
+/// Every record that place i may hold.
+fn records(i: usize) -> Vec<Record> {
+    let mut list = vec![Record::default()];
+    for constant in [false, true] {
+        for mask in 0..1 << i {
+            list.push(Record {
+                frozen: true,
+                constant,
+                named: (0..i).filter(|j| mask >> j & 1 == 1).collect(),
+            });
+        }
+    }
+    list
+}
+
+/// Every good sheet of N records.
+fn sheets(length: usize) -> Vec<Sheet> {
+    let mut list = vec![Vec::new()];
+    for i in 0..length {
+        list = (list.iter())
+            .flat_map(|before| {
+                records(i).into_iter().map(|record| {
+                    let mut longer = before.clone();
+                    longer.push(record);
+                    longer
+                })
+            })
+            .collect();
+    }
+    list.into_iter().map(|records| Sheet { records }).collect()
+}
+
+/// Every word of N symbols 0, 1 and 2.
+fn words(length: usize) -> Vec<Vec<u8>> {
+    (0..3usize.pow(length as u32))
+        .map(|t| {
+            (0..length)
+                .map(|j| (t / 3usize.pow(j as u32) % 3) as u8)
+                .collect()
+        })
+        .collect()
+}
+
+#[test]
+fn every_sheet_and_word_up_to_four() {
+    for (n, count) in [(0, 3), (1, 15), (2, 2295)] {
+        let sheets = sheets(1 << n);
+        assert_eq!(sheets.len(), count);
+        let mut seen = [0; 3];
+        for sheet in &sheets {
+            assert_eq!(
+                Sheet::read(n, &bytes(&sheet.records), 0).as_ref(),
+                Ok(sheet)
+            );
+            for word in words(1 << n) {
+                let found = dense::agreeing(sheet, 0, &word);
+                assert_eq!(
+                    found,
+                    brute::agreeing(sheet, 0, &word),
+                    "{sheet:?} {word:?}"
+                );
+                seen[found.map_or(2, |found| found.d.min(1))] += 1;
+            }
+        }
+        assert!(seen.iter().all(|&count| count > 0), "{seen:?}");
+    }
+}
+
+#[test]
+fn random_cases_of_eight() {
+    let mut rng = Rng::new(1);
+    for r in [0, 6] {
+        let mut seen = [0; 3];
+        for round in 0..4000 {
+            let (bytes, sheet) = any_sheet(&mut rng, 3, r);
+            let word = if round % 4 == 0 {
+                bits(&mut rng, 8)
+            } else {
+                any_codeword(&mut rng, 3, &bytes, r)
+            };
+            let losses = rng.below(9);
+            let word = damaged(&mut rng, &word, losses);
+            let found = dense::agreeing(&sheet, r, &word);
+            assert_eq!(
+                found,
+                brute::agreeing(&sheet, r, &word),
+                "{sheet:?} {word:?}"
+            );
+            seen[found.map_or(2, |found| found.d.min(1))] += 1;
+        }
+        assert!(seen.iter().all(|&count| count > 100), "{seen:?}");
+    }
+}
+
+/// The word of N symbols erased at the marked places.
+fn erased(length: usize, marks: usize) -> Vec<u8> {
+    (0..length)
+        .map(|j| if marks >> j & 1 == 1 { 2 } else { 0 })
+        .collect()
+}
+
+#[test]
+fn open_positions_by_all_pairs() {
+    for n in 0..=3 {
+        let mut sets = std::collections::HashSet::new();
+        for marks in 0..1usize << (1 << n) {
+            let word = erased(1 << n, marks);
+            let open = open::open_positions(&word);
+            assert_eq!(open, brute::open_positions(&word), "{word:?}");
+            let count = open.iter().filter(|&&open| open).count();
+            assert_eq!(count, marks.count_ones() as usize);
+            sets.insert(open);
+        }
+        assert!(n == 0 || sets.len() > 1 << n, "more sets than sizes");
+    }
+    assert_eq!(open::open_positions(&[2, 0]), [true, false]);
+    assert_eq!(open::open_positions(&[0, 2]), [true, false]);
+}
+
+#[test]
+fn as_many_open_as_erased() {
+    let mut rng = Rng::new(2);
+    for n in 4..=7 {
+        for losses in 0..=8 {
+            for _ in 0..6 {
+                let word = bits(&mut rng, 1 << n);
+                let word = damaged(&mut rng, &word, losses);
+                let open = open::open_positions(&word);
+                let lost = word.iter().filter(|&&symbol| symbol == 2).count();
+                assert_eq!(open.iter().filter(|&&open| open).count(), lost);
+                // equal losses, whatever was read
+                let other: Vec<u8> = word.iter().map(|&s| if s == 2 { 2 } else { 0 }).collect();
+                assert_eq!(open, open::open_positions(&other));
+            }
+        }
+    }
+}
+
+#[test]
+fn counts_bound_each_other() {
+    let mut rng = Rng::new(3);
+    let mut strict = [0; 2];
+    for n in 0..=7 {
+        for r in [0, 6, 11].into_iter().filter(|&r| r < 1 << n) {
+            for round in 0..40 {
+                let (bytes, sheet) = any_sheet(&mut rng, n, r);
+                let word = any_codeword(&mut rng, n, &bytes, r);
+                let word = damaged(&mut rng, &word, round % 9);
+                let lost = word.iter().filter(|&&symbol| symbol == 2).count();
+                let open = open::open_positions(&word);
+                let (g, m) = open::counts(&sheet, r, &open);
+                let found = dense::agreeing(&sheet, r, &word).expect("a codeword agrees");
+                assert!(found.d <= g && g <= lost);
+                // open and closed, free and frozen make up all N
+                let closed_free = sheet.k() - g;
+                let open_frozen = lost - g;
+                assert_eq!(m - r + closed_free + open_frozen + g, 1 << n);
+                strict[0] += usize::from(found.d < g);
+                strict[1] += usize::from(g < lost);
+            }
+        }
+    }
+    assert!(strict.iter().all(|&count| count > 50), "{strict:?}");
+}
+
+#[test]
+fn losses_alone_decide_what_is_recovered() {
+    let mut rng = Rng::new(4);
+    let mut seen = [0; 4];
+    for n in 0..=7 {
+        for r in [0, 6, 11].into_iter().filter(|&r| r < 1 << n) {
+            for round in 0..60 {
+                let (bytes, _) = any_sheet(&mut rng, n, r);
+                let losses = round % 9;
+                let word = any_codeword(&mut rng, n, &bytes, r);
+                let first = damaged(&mut rng, &word, losses);
+                let other = if rng.below(4) == 0 {
+                    bits(&mut rng, 1 << n)
+                } else {
+                    any_codeword(&mut rng, n, &bytes, r)
+                };
+                let second: Vec<u8> = (first.iter().zip(&other))
+                    .map(|(&mark, &symbol)| if mark == 2 { 2 } else { symbol })
+                    .collect();
+                let ceiling = if rng.bit() { 63 } else { rng.below(20) };
+                let (a, a_strips) = decode(n, &bytes, r, ceiling, &first);
+                let (b, b_strips) = decode(n, &bytes, r, ceiling, &second);
+                assert_eq!((a.g, a.m, a.code == 18), (b.g, b.m, b.code == 18));
+                match (a_strips, b_strips) {
+                    (Some([a_settled, ..]), Some([b_settled, ..])) => {
+                        assert_eq!((a.code, a.d), (b.code, b.d));
+                        for (x, y) in a_settled.iter().zip(&b_settled) {
+                            assert_eq!(*x == 2, *y == 2);
+                        }
+                        seen[usize::from(a.code)] += 1;
+                    }
+                    _ => seen[if a.code == 18 { 3 } else { 2 }] += 1,
+                }
+            }
+        }
+    }
+    assert!(seen.iter().all(|&count| count > 50), "{seen:?}");
+}
+
+#[test]
+fn ends_and_settled_places_of_long_words() {
+    // where no list can be made: the ends agree, keep all rules and stand around what was stored
+    use second::code::{agrees, keeps, transform};
+    let mut rng = Rng::new(5);
+    let mut ambiguous = 0;
+    let mut settled_losses = 0;
+    for n in 4..=7 {
+        for r in [0, 6, 11] {
+            for losses in 1..=8 {
+                let (bytes, sheet) = any_sheet(&mut rng, n, r);
+                let whole = any_codeword(&mut rng, n, &bytes, r);
+                let word = damaged(&mut rng, &whole, losses);
+                let found = dense::agreeing(&sheet, r, &word).expect("a codeword agrees");
+                let stored: Vec<bool> = whole.iter().map(|&bit| bit == 1).collect();
+                let stored = transform(&stored);
+                assert!(found.first <= stored && stored <= found.last);
+                assert_eq!(found.first == found.last, found.d == 0);
+                for u in [&found.first, &found.last] {
+                    let x = transform(u);
+                    assert!(keeps(&sheet, r, u) && agrees(&x, &word));
+                    assert!(agrees(&x, &found.settled));
+                }
+                for (j, &settled) in found.settled.iter().enumerate() {
+                    assert!(settled == 2 || settled == whole[j]);
+                    // a lost place is settled exactly when no codeword has its other value there
+                    let mut other = word.clone();
+                    if other[j] == 2 {
+                        other[j] = 1 - whole[j];
+                        let none = dense::agreeing(&sheet, r, &other).is_none();
+                        assert_eq!(settled != 2, none);
+                        settled_losses += usize::from(none);
+                    } else {
+                        assert_eq!(settled, word[j]);
+                    }
+                }
+                ambiguous += usize::from(found.d > 0);
+            }
+        }
+    }
+    assert!(
+        ambiguous > 20 && settled_losses > 100,
+        "{ambiguous}, {settled_losses}"
+    );
+}
