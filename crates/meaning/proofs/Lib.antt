@@ -16,3 +16,4 @@ pub mod Dimension
 pub mod Refusals
 pub mod Demands
 pub mod Bench
+pub mod Determined
