@@ -1,4 +1,6 @@
 -- The rules and the check are affine: three vectors that keep them have a sum that does. Agreement is, too.
+--     keeps-three                   three vectors that keep rules and check
+--     agrees-clear, clear-agrees    two that agree differ only in erased places
 use mathlib.Core.Path.{_≡_, refl, sym, ap, ap₂, _∙_}
 use Prim.Native.Nat.{ℕ, zero, suc, _+_}
 use native.Mathlib.Omega.{arith}

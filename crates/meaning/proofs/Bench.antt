@@ -1,7 +1,7 @@
 -- 01's starred bench examples hold, all under one statement: `table`. E1 to E12, and the row with r = 6.
 -- They are computed; open positions go by halves, which the law `open-list` allows.
 use mathlib.Core.Path.{_≡_, refl, ap, _∙_}
-use Prim.Native.Nat.{ℕ, _+_, _*_, _^_}
+use Prim.Native.Nat.{ℕ, _+_, _^_}
 use mathlib.Core.Bool.{Bool, true, _&&_}
 use mathlib.Core.List.{List, [], _∷_, _++_, map}
 use lib.ListN.{length, length-map}
@@ -17,7 +17,7 @@ use Rattle.meaning.specs.Codewords.{erased, codewords, candidates, paylo
 use Rattle.meaning.specs.Open.{openFree, closedFrozen, openAll, opens, unknowns, equations}
 use Rattle.meaning.specs.Strips.{settled, strips, dimension}
 use Rattle.meaning.specs.Answers.{Reply, _⇒_, firstOf, badShape, badCheck, sheetRefusals, wordRefusals, formRefusals, decodeRefusals, encodeRefusals, leaving, verdict, encoding, decoding}
-use Rattle.meaning.specs.Bench.{Row, encodes, decodes, digits, five, held, replies, rows, holds}
+use Rattle.meaning.specs.Bench.{Row, encodes, decodes, digits, held, replies, rows, holds}
 use Rattle.meaning.specs.declared.Answer.the-variants.{TooMany}
 use Rattle.meaning.proofs.Open.{open-list}
 

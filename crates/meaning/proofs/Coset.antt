@@ -1,4 +1,5 @@
--- Demand 3: where symbols are erased decides how many codewords agree and which places are settled, if any codeword agrees at all.
+-- Demand 3, over the candidates: where symbols are erased decides how many codewords agree and which places are settled, if any codeword agrees at all.
+--     same-number, same-settled     for two words erased in the same places
 use mathlib.Core.Path.{_≡_, refl, sym, ap, _∙_}
 use Prim.Native.Nat.{ℕ, _^_}
 use native.Mathlib.Omega.{arith}

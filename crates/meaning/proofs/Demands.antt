@@ -6,25 +6,24 @@
 --     ambiguous-iff        ambiguous of dimension d exactly when 2 ^ d do, d at least 1
 --     shown                the strips: settled, first, last; later bytes as found
 --     demand-3             two words erased in the same places
-use mathlib.Core.Path.{_≡_, refl, sym, ap, ap₂, _∙_, subst}
+use mathlib.Core.Path.{_≡_, refl, sym, ap, ap₂, _∙_}
 use mathlib.Core.Logic.{_↔_}
-use Prim.Native.Nat.{ℕ, zero, suc, _+_, _*_, _^_, _≤_, _<_}
+use Prim.Native.Nat.{ℕ, zero, suc, _*_, _^_, _≤_, _<_}
 use native.Mathlib.Omega.{arith}
-use mathlib.Core.Bool.{Bool, true, false, _||_, not, false≢true}
+use mathlib.Core.Bool.{Bool, true, false, not}
 use mathlib.Core.List.{List, [], _∷_, _++_, map, List·Memᴰ, List·Memᴰ·head, append-assoc}
-use lib.ListN.{length, drop, getD, length-append, length-map, List·getD-append}
+use lib.ListN.{length, drop, getD, List·getD-append}
 use lib.Dec.{eqb, ltb}
 use lib.Pow.{pow-pos}
 use borrow.Author.Tests.{ltb-true, ltb-false, lt-ltb, le-ltb, eqb-true, not-false}
-use Rattle.bits.specs.Vectors.{pick, tab, firstPlace, bit}
+use Rattle.bits.specs.Vectors.{pick, firstPlace}
 use Rattle.bits.proofs.Tests.{length-tab, tab-at, or-false-l, or-false-r}
 use Rattle.meaning.specs.Limits.{largestCeiling}
-use Rattle.meaning.specs.Sheet.{Rule, rules, badRecord, early}
+use Rattle.meaning.specs.Sheet.{Rule, rules, badRecord}
 use Rattle.meaning.specs.Codewords.{erased, candidates}
 use Rattle.meaning.specs.Open.{openAll, unknowns, equations}
 use Rattle.meaning.specs.Strips.{log2, dimension, settled, settledAt, first, last, strips}
-use Rattle.meaning.specs.Answers.{numbersOf, _⇒_, refuses, badShape, firstOf, sheetRefusals, wordRefusals, formRefusals, decodeRefusals, Reply, leaving, verdict, decoding}
-use Rattle.meaning.specs.declared.Answer.{Answer}
+use Rattle.meaning.specs.Answers.{numbersOf, _⇒_, refuses, badShape, sheetRefusals, wordRefusals, formRefusals, decodeRefusals, Reply, leaving, verdict, decoding}
 use Rattle.meaning.specs.declared.Answer.the-variants.{BadCeiling, TooMany}
 use Rattle.meaning.proofs.Refusals.{first-append, first-none, none-append}
 use Rattle.meaning.proofs.Dimension.{dimension-pow, dimension-is}

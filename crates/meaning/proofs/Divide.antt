@@ -1,4 +1,6 @@
--- The remainder is zero just where a quotient exists: the check polynomial divides.
+-- The check polynomial divides: the remainder is zero exactly when a quotient exists.
+--     times g q       D^r + g times q
+--     divides-iff     the law
 use mathlib.Core.Path.{_≡_, refl, sym, ap, ap₂, _∙_}
 use mathlib.Core.Logic.{_↔_}
 use Prim.Native.Nat.{ℕ, zero, suc, _+_}

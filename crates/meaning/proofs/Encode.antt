@@ -1,4 +1,7 @@
--- Encoding: of each payload there is one codeword. The check bits are the payload's remainder after shifting by r, and the frozen bits follow.
+-- Of each payload there is one codeword: the check bits are the payload's remainder after shifting by r, and the frozen bits follow.
+--     place            the bits that the rules give, with the free ones handed in
+--     encoded          the u of a payload; it keeps rules and check, and is the only one
+--     carrying-one     the list of codewords with a payload has one member
 use mathlib.Core.Path.{_≡_, refl, sym, ap, ap₂, _∙_, subst}
 use Prim.Native.Nat.{ℕ, suc, _+_, _^_, _-_}
 use native.Mathlib.Omega.{arith}

@@ -1,4 +1,5 @@
--- x_j is the XOR of all u_i such that every bit set in j is set in i.
+-- The published formula: x_j is the XOR of all u_i such that every bit set in j is set in i.
+--     formula      the transform by halves is the formula
 use mathlib.Core.Path.{_≡_, refl, sym, ap, ap₂, _∙_}
 use mathlib.Core.Logic.{_⊎_, inl, inr}
 use Prim.Native.Nat.{ℕ, zero, suc, _+_, _*_, _-_, _^_, _<_, suc-le-suc}

@@ -1,4 +1,8 @@
--- The number of codewords that agree is a power of two, 2 ^ d, and d is at most g.
+-- How many codewords agree, and how many positions are open.
+--     number           0 or a power of two codewords agree
+--     d-le-g           if 2 ^ d agree, d is at most g
+--     g-le-erased      g is at most the number of erased symbols
+--     open-erased      as many positions are open as symbols are erased
 use mathlib.Core.Path.{_≡_, refl, sym, ap, ap₂, _∙_}
 use mathlib.Core.Logic.{_⊎_}
 use Prim.Native.Nat.{ℕ, suc, _+_, _^_, _≤_, _<_}
@@ -111,3 +115,8 @@ g-le-erased n ks w l = rw (open-list n (map erased w) (length-map w erased ∙ l
     sub (k ∷ ks) [] = omega arith
     sub (free ∷ ks) (b ∷ o) = omega (arith, sub ks o)
     sub (frozen c m ∷ ks) (b ∷ o) = omega (arith, sub ks o)
+
+-- the number of open positions equals the number of erased symbols
+pub open-erased : (n : ℕ) (w : List ℕ) → length w ≡ 2 ^ n → ones (openAll n w) ≡ ones (map erased w)
+unfolding openAll
+open-erased n w l = ap ones (open-list n (map erased w) (length-map w erased ∙ l)) ∙ ones-opens n (map erased w) (length-map w erased ∙ l)

@@ -1,19 +1,31 @@
--- The laws of the definitions.
+-- The laws of the definitions, in reading order.
+--     Polar, Formula            the transform
+--     Sound                     a sheet with no bad record
+--     Remainder, Divide         the check
+--     Affine, Candidates        rules, check and agreement; the list of candidates
+--     Coset                     two words erased in the same places
+--     Open, Size, Gap           open positions; how many candidates there can be
+--     Dimension                 the number of candidates is 2 ^ d
+--     Encode                    one codeword a payload
+--     Mono                      more read, never less known
+--     Refusals, Demands         tables of refusals; demands 2 and 3 of `decoding`
+--     Determined                a promise allows one result
+--     Bench                     the starred examples
 pub mod Polar
 pub mod Formula
+pub mod Sound
+pub mod Remainder
+pub mod Divide
 pub mod Affine
 pub mod Candidates
 pub mod Coset
 pub mod Open
 pub mod Size
 pub mod Gap
-pub mod Mono
-pub mod Remainder
-pub mod Divide
-pub mod Encode
-pub mod Sound
 pub mod Dimension
+pub mod Encode
+pub mod Mono
 pub mod Refusals
 pub mod Demands
-pub mod Bench
 pub mod Determined
+pub mod Bench

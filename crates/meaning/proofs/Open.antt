@@ -1,4 +1,7 @@
--- Open positions: by pairs of vectors, by their difference, and by halves.
+-- Open positions: by two vectors, by their difference, and by halves.
+--     open-diff       by two vectors = by one difference
+--     open-list       = by halves, for all positions
+--     ones-opens      as many are open as are erased
 use mathlib.Core.Path.{_≡_, refl, sym, ap, ap₂, _∙_}
 use mathlib.Core.Logic.{_⊎_, inl, inr, _↔_}
 use Prim.Native.Nat.{ℕ, zero, suc, _+_, _^_, _<_}

@@ -1,4 +1,7 @@
 -- The transform: its lengths, that it is linear, and that it is its own inverse.
+--     splits, halves            induction on vectors of 2 ^ n bits
+--     polar-⊞                   linear
+--     polar-polar               its own inverse
 use mathlib.Core.Path.{_≡_, refl, sym, _∙_, subst}
 use Prim.Native.Nat.{ℕ, zero, suc, _^_}
 use native.Mathlib.Omega.{arith}

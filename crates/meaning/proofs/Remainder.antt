@@ -1,4 +1,6 @@
--- Encoding: of each payload there is one codeword. The check bits are the payload's remainder after shifting by r, and the frozen bits follow.
+-- The check bits: the last r bits of what the check polynomial divides are the remainder of what stands before them.
+--     remainder g p     the remainder of p after shifting by r
+--     check-bits        free bits keep the check exactly when the last r are the payload's remainder
 use mathlib.Core.Path.{_≡_, refl, sym, ap, ap₂, _∙_}
 use mathlib.Core.Logic.{_↔_}
 use Prim.Native.Nat.{ℕ, suc, _+_, _-_}

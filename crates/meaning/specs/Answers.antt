@@ -6,7 +6,7 @@
 --     checking             the sheet alone, with its r
 --     encoding, readingBack, decoding      the calls with a buffer
 -- `s` is the sheet, `w` the word, `p` the payload, `c` the ceiling, `out` the buffer as found.
-use Prim.Native.Nat.{ℕ, _+_, _*_, _-_, _^_}
+use Prim.Native.Nat.{ℕ, _*_, _-_, _^_}
 use mathlib.Core.Bool.{Bool, _&&_, _||_, not}
 use mathlib.Core.List.{List, [], _∷_, _++_, map}
 use lib.ListN.{length, drop}

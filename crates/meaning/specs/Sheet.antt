@@ -7,8 +7,8 @@
 --     badRecord n s    the place of the first record that breaks any rule, or N
 --     frees            K, the number of free positions
 --     early            a frozen record names only positions below its own
-use Prim.Native.Nat.{ℕ, zero, suc, _+_, _*_, _/_, _%_, _^_}
-use mathlib.Core.Bool.{Bool, true, false, _&&_, not}
+use Prim.Native.Nat.{ℕ, suc, _+_, _*_, _/_, _%_, _^_}
+use mathlib.Core.Bool.{Bool, true, _&&_, not}
 use mathlib.Core.List.{List, [], _∷_}
 use lib.ListN.{drop, getD}
 use lib.Dec.{eqb, leb}
