@@ -8,24 +8,23 @@
 --     demand-3             two words erased in the same places
 use mathlib.Core.Path.{_≡_, refl, sym, ap, ap₂, _∙_}
 use mathlib.Core.Logic.{_↔_}
-use Prim.Native.Nat.{ℕ, zero, suc, _*_, _^_, _≤_, _<_}
+use Prim.Native.Nat.{ℕ, zero, suc, _^_, _≤_, _<_}
 use native.Mathlib.Omega.{arith}
-use mathlib.Core.Bool.{Bool, true, false, not}
+use mathlib.Core.Bool.{Bool, true, false}
 use mathlib.Core.List.{List, [], _∷_, _++_, map, List·Memᴰ, List·Memᴰ·head, append-assoc}
 use lib.ListN.{length, drop, getD, List·getD-append}
-use lib.Dec.{eqb, ltb}
+use lib.Dec.{ltb}
 use lib.Pow.{pow-pos}
-use borrow.Author.Tests.{ltb-true, ltb-false, lt-ltb, le-ltb, eqb-true, not-false}
-use Rattle.bits.specs.Vectors.{pick, firstPlace}
-use Rattle.bits.proofs.Tests.{length-tab, tab-at, or-false-l, or-false-r}
-use Rattle.meaning.specs.Limits.{largestCeiling}
-use Rattle.meaning.specs.Sheet.{Rule, rules, badRecord}
+use borrow.Author.Tests.{ltb-true, ltb-false, lt-ltb, le-ltb}
+use Rattle.bits.specs.Vectors.{pick}
+use Rattle.bits.proofs.Tests.{length-tab, tab-at}
+use Rattle.meaning.specs.Sheet.{Rule, rules}
 use Rattle.meaning.specs.Codewords.{erased, candidates}
 use Rattle.meaning.specs.Open.{openAll, unknowns, equations}
 use Rattle.meaning.specs.Strips.{log2, dimension, settled, settledAt, first, last, strips}
-use Rattle.meaning.specs.Answers.{numbersOf, _⇒_, refuses, badShape, sheetRefusals, wordRefusals, formRefusals, decodeRefusals, Reply, leaving, verdict, decoding}
-use Rattle.meaning.specs.declared.Answer.the-variants.{BadCeiling, TooMany}
-use Rattle.meaning.proofs.Refusals.{first-append, first-none, none-append}
+use Rattle.meaning.specs.Answers.{numbersOf, refuses, formRefusals, decodeRefusals, Reply, leaving, verdict, decoding}
+use Rattle.meaning.specs.declared.Answer.the-variants.{TooMany}
+use Rattle.meaning.proofs.Refusals.{first-append, first-none}
 use Rattle.meaning.proofs.Dimension.{dimension-pow, dimension-is}
 use Rattle.meaning.proofs.Coset.{same-number, same-settled}
 
@@ -112,11 +111,6 @@ code-not-18 (suc (suc k)) h = omega arith
 
 -- ---- a word without a fault of form
 
-pub record InForm (n : ℕ) (s : List ℕ) (r c : ℕ) (w out : List ℕ) : Type 0 where
-  pub sound : ltb (badRecord n s) (2 ^ n) ≡ false
-  pub long : length w ≡ 2 ^ n
-  pub room : 3 * 2 ^ n ≤ length out
-
 module _ (n : ℕ) (s : List ℕ) (r c : ℕ) (w out : List ℕ) (ok : refuses (formRefusals n s r c w out) ≡ false) where
   abbrev ks : List Rule
   ks = rules n s
@@ -129,18 +123,6 @@ module _ (n : ℕ) (s : List ℕ) (r c : ℕ) (w out : List ℕ) (ok : refuses (
 
   abbrev cs : List (List Bool)
   cs = candidates n ks r w
-
-  pub in-form : InForm n s r c w out
-  unfolding formRefusals sheetRefusals wordRefusals
-  in-form =
-      let a = none-append (sheetRefusals n s r ++ wordRefusals (2 ^ n) 2 (3 * 2 ^ n) w out) ((ltb largestCeiling c ⇒ BadCeiling) ∷ []) ok .0 in
-      let (p, q) = none-append (sheetRefusals n s r) (wordRefusals (2 ^ n) 2 (3 * 2 ^ n) w out) a in
-      let q′ = or-false-r (not (eqb (length w) (2 ^ n))) _ q in
-      record {
-        sound = or-false-l (ltb (badRecord n s) (2 ^ n)) _ (or-false-r (badShape n s) _ p);
-        long = eqb-true (length w) (2 ^ n) (not-false (eqb (length w) (2 ^ n)) (or-false-l (not (eqb (length w) (2 ^ n))) _ q));
-        room = ltb-false (length out) (3 * 2 ^ n) (or-false-l (ltb (length out) (3 * 2 ^ n)) _ (or-false-r (ltb (firstPlace (ltb 2) w) (length w)) _ q′));
-      }
 
   -- 18, or the verdict
   judged : decoding n s r c w out ≡ pick (ltb c g) (leaving out (TooMany g)) (verdict n g m cs out)

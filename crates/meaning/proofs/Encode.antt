@@ -1,6 +1,6 @@
 -- Of each payload there is one codeword: the check bits are the payload's remainder after shifting by r, and the frozen bits follow.
---     place            the bits that the rules give, with the free ones handed in
---     encoded          the u of a payload; it keeps rules and check, and is the only one
+--     keeps-place, place-unique          the rules give one vector for given free bits
+--     encoded-keeps, encoded-unique      the u of a payload keeps rules and check, and is the only one
 --     carrying-one     the list of codewords with a payload has one member
 use mathlib.Core.Path.{_≡_, refl, sym, ap, ap₂, _∙_, subst}
 use Prim.Native.Nat.{ℕ, suc, _+_, _^_, _-_}
@@ -13,6 +13,7 @@ use lib.Seq.{take-at}
 use Rattle.bits.specs.Vectors.{_⊕_, zeros, same}
 use Rattle.bits.proofs.Tests.{and-l, and-r, and-i}
 use Rattle.bits.proofs.Xor.{eq-⊕, ⊕-eq, ⊞-self, zeros-none, zeros-eq}
+use Rattle.meaning.specs.Payload.{place, encoded, remainder}
 use Rattle.meaning.specs.Check.{odd, keepsRules, freeBits, poly, divides, keeps}
 use Rattle.meaning.specs.Limits.{leads}
 use Rattle.meaning.specs.Sheet.{Rule, free, frozen, early, frees}
@@ -21,16 +22,9 @@ use Rattle.meaning.specs.Codewords.{payloadOf, carrying}
 use Rattle.meaning.proofs.Polar.{length-polar, polar-polar}
 use Rattle.meaning.proofs.Candidates.{Codeword, earlier-unique, carrying-rise, carrying-iff}
 use Rattle.meaning.proofs.Gap.{odd-early}
-use Rattle.meaning.proofs.Remainder.{length-poly, remainder, check-bits, length-remainder}
+use Rattle.meaning.proofs.Remainder.{length-poly, check-bits, length-remainder}
 
 -- ---- the frozen bits
-
--- the bits from the rules ks on, after the bits c, with f for the free ones
-unfoldable pub place : List Rule → List Bool → List Bool → List Bool
-place [] c f = []
-place (free ∷ ks) c [] = false ∷ place ks (c ++ (false ∷ [])) []
-place (free ∷ ks) c (b ∷ f) = b ∷ place ks (c ++ (b ∷ [])) f
-place (frozen o m ∷ ks) c f = (o ⊕ odd m c) ∷ place ks (c ++ ((o ⊕ odd m c) ∷ [])) f
 
 pub length-free : (ks : List Rule) (v : List Bool) → length v ≡ length ks → length (freeBits ks v) ≡ frees ks
 length-free [] v h = refl
@@ -89,10 +83,7 @@ place-unique (frozen o m ∷ ks) c (b ∷ v) h l k =
 -- ---- the codeword of a payload
 
 module _ (n : ℕ) (ks : List Rule) (r : ℕ) (lk : length ks ≡ 2 ^ n) (ok : early 0 ks ≡ true) (p : List Bool) (lp : length p + r ≡ frees ks) where
-  unfoldable pub encoded : List Bool
-  encoded = place ks [] (p ++ remainder (poly r) (leads r ++ p))
-
-  pub encoded-keeps : (length encoded ≡ 2 ^ n) × (keeps ks r encoded ≡ true) × (take (length p) (freeBits ks encoded) ≡ p)
+  pub encoded-keeps : (length (encoded ks r p) ≡ 2 ^ n) × (keeps ks r (encoded ks r p) ≡ true) × (take (length p) (freeBits ks (encoded ks r p)) ≡ p)
   unfolding encoded keeps
   encoded-keeps =
       let c : List Bool = remainder (poly r) (leads r ++ p) in
@@ -100,7 +91,7 @@ module _ (n : ℕ) (ks : List Rule) (r : ℕ) (lk : length ks ≡ 2 ^ n) (ok : e
       let e : freeBits ks (place ks [] (p ++ c)) ≡ p ++ c = free-place ks [] (p ++ c) (simp length-append (omega arith)) in
       (length-place ks [] (p ++ c) ∙ lk, and-i _ _ (keeps-place ks [] (p ++ c) ok) (rw e (check-bits r p c lc .1 refl)), rw e (take-at p c (length p) refl))
 
-  pub encoded-unique : (u : List Bool) → length u ≡ 2 ^ n → keeps ks r u ≡ true → take (length p) (freeBits ks u) ≡ p → u ≡ encoded
+  pub encoded-unique : (u : List Bool) → length u ≡ 2 ^ n → keeps ks r u ≡ true → take (length p) (freeBits ks u) ≡ p → u ≡ encoded ks r p
   unfolding encoded keeps
   encoded-unique u lu k e =
       let f : List Bool = freeBits ks u in
@@ -118,11 +109,11 @@ module _ (n : ℕ) (ks : List Rule) (r : ℕ) (lk : length ks ≡ 2 ^ n) (ok : e
   same-self v = ap zeros (⊞-self v) ∙ zeros-none (length v)
 
   -- there is one codeword with payload p
-  pub carrying-one : carrying n ks r p ≡ polar n encoded ∷ []
+  pub carrying-one : carrying n ks r p ≡ polar n (encoded ks r p) ∷ []
   unfolding payloadOf
   carrying-one =
       let (le, ke, te) = encoded-keeps in
-      let one : (x : List Bool) → Codeword n ks r x → same p (payloadOf n ks r x) ≡ true → x ≡ polar n encoded =
+      let one : (x : List Bool) → Codeword n ks r x → same p (payloadOf n ks r x) ≡ true → x ≡ polar n (encoded ks r p) =
       λ x (lx, k) e.
       let u : List Bool = polar n x in
       let lu : length u ≡ 2 ^ n = length-polar n x lx in
@@ -130,11 +121,11 @@ module _ (n : ℕ) (ks : List Rule) (r : ℕ) (lk : length ks ≡ 2 ^ n) (ok : e
       let lt : length p ≡ length (take (frees ks - r) (freeBits ks u)) = sym (simp length-take (omega arith)) in
       let t : take (length p) (freeBits ks u) ≡ p = ap (λ (m : ℕ). take m (freeBits ks u)) (sym payload-length) ∙ sym (zeros-eq p (take (frees ks - r) (freeBits ks u)) lt e) in
       sym (polar-polar n x lx) ∙ ap (polar n) (encoded-unique u lu k t) in
-      let back : polar n (polar n encoded) ≡ encoded = polar-polar n encoded le in
-      let is : same p (payloadOf n ks r (polar n encoded)) ≡ true =
-      ap (λ (t : List Bool). same p (take (frees ks - r) (freeBits ks t))) back ∙ ap (λ (m : ℕ). same p (take m (freeBits ks encoded))) payload-length ∙ ap (same p) te ∙ same-self p in
-      earlier-unique n (carrying n ks r p) (polar n encoded ∷ []) (carrying-rise n ks r p) (tt, tt)
+      let back : polar n (polar n (encoded ks r p)) ≡ encoded ks r p = polar-polar n (encoded ks r p) le in
+      let is : same p (payloadOf n ks r (polar n (encoded ks r p))) ≡ true =
+      ap (λ (t : List Bool). same p (take (frees ks - r) (freeBits ks t))) back ∙ ap (λ (m : ℕ). same p (take m (freeBits ks (encoded ks r p)))) payload-length ∙ ap (same p) te ∙ same-self p in
+      earlier-unique n (carrying n ks r p) (polar n (encoded ks r p) ∷ []) (carrying-rise n ks r p) (tt, tt)
       (λ x. (
         λ m. let (k, e) = carrying-iff n ks r p x .0 m in List·Memᴰ·head (one x k e),
-        λ m. Memᴰ·cast (List·Memᴰ·eq-of-singleton m) (carrying-iff n ks r p (polar n encoded) .1 ((length-polar n encoded le, ap (keeps ks r) back ∙ ke), is)),
+        λ m. Memᴰ·cast (List·Memᴰ·eq-of-singleton m) (carrying-iff n ks r p (polar n (encoded ks r p)) .1 ((length-polar n (encoded ks r p) le, ap (keeps ks r) back ∙ ke), is)),
       ))

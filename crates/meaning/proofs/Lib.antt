@@ -8,7 +8,9 @@
 --     Dimension                 the number of candidates is 2 ^ d
 --     Encode                    one codeword a payload
 --     Mono                      more read, never less known
---     Refusals, Demands         tables of refusals; demands 2 and 3 of `decoding`
+--     Refusals, Forms           tables of refusals; what is known where none applies
+--     Demands                   demands 2 and 3 of `decoding`
+--     ReadBack                  encoding and read-back; the round trip
 --     Determined                a promise allows one result
 --     Bench                     the starred examples
 pub mod Polar
@@ -26,6 +28,8 @@ pub mod Dimension
 pub mod Encode
 pub mod Mono
 pub mod Refusals
+pub mod Forms
 pub mod Demands
+pub mod ReadBack
 pub mod Determined
 pub mod Bench

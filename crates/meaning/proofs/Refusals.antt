@@ -5,6 +5,7 @@ use mathlib.Core.Path.{_≡_, refl}
 use mathlib.Core.Bool.{Bool, true, false, _||_, true≢false}
 use mathlib.Core.List.{List, [], _∷_, _++_}
 use Rattle.bits.specs.Vectors.{pick}
+use Rattle.bits.proofs.Tests.{or-false-l, or-false-r}
 use Rattle.meaning.specs.Answers.{Refusal, firstOf, refuses}
 use Rattle.meaning.specs.declared.Answer.{Answer}
 
@@ -29,3 +30,7 @@ none-append (t ∷ a) b h = go (t .applies) h (none-append a b)
     go : (c : Bool) → c || refuses (a ++ b) ≡ false → (refuses (a ++ b) ≡ false → (refuses a ≡ false) × (refuses b ≡ false)) → (c || refuses a ≡ false) × (refuses b ≡ false)
     go true k g = absurd (true≢false k)
     go false k g = g k
+
+pub both-none : (a b : List Refusal) → refuses a ≡ false → refuses b ≡ false → refuses (a ++ b) ≡ false
+both-none [] b p q = q
+both-none (t ∷ a) b p q = rw (or-false-l (t .applies) _ p) (both-none a b (or-false-r (t .applies) _ p) q)

@@ -1,5 +1,4 @@
 -- The check bits: the last r bits of what the check polynomial divides are the remainder of what stands before them.
---     remainder g p     the remainder of p after shifting by r
 --     check-bits        free bits keep the check exactly when the last r are the payload's remainder
 use mathlib.Core.Path.{_≡_, refl, sym, ap, ap₂, _∙_}
 use mathlib.Core.Logic.{_↔_}
@@ -13,6 +12,7 @@ use Rattle.bits.specs.Vectors.{any, _⊞_, zeros}
 use Rattle.bits.proofs.Xor.{⊞-comm, length-⊞, none, ⊞-none, length-none, ⊞-self, zeros-none, zeros-eq}
 use Rattle.bits.proofs.Tests.{length-tab}
 use Rattle.meaning.specs.Limits.{leads}
+use Rattle.meaning.specs.Payload.{remainder}
 use Rattle.meaning.specs.Check.{terms, shift, rest, poly, divides}
 use Rattle.meaning.proofs.Affine.{rest-⊞}
 
@@ -48,11 +48,8 @@ rest-small g d (b ∷ c) h =
     ∙ rest-small g (d ++ (b ∷ [])) c (simp length-append (omega arith)) ∙ append-assoc d (b ∷ []) c
 
 module _ (g p : List Bool) where
-  unfoldable pub remainder : List Bool
-  remainder = rest g (none (length g)) (p ++ none (length g))
-
-  rest-check : (c : List Bool) → length c ≡ length g → rest g (none (length g)) (p ++ c) ≡ remainder ⊞ c
-  unfolding remainder
+  rest-check : (c : List Bool) → length c ≡ length g → rest g (none (length g)) (p ++ c) ≡ remainder g p ⊞ c
+  unfolding none remainder
   rest-check c h =
       let s : List Bool = rest g (none (length g)) p in
       let o : List Bool = none (length g) in
@@ -65,7 +62,7 @@ module _ (g p : List Bool) where
       ∙ ap₂ _⊞_ (sym (rest-append g o p o)) small
 
 pub length-remainder : (g p : List Bool) → length (remainder g p) ≡ length g
-unfolding remainder
+unfolding none remainder
 length-remainder g p = length-rest g (none (length g)) (p ++ none (length g)) (length-none (length g))
 
 pub length-poly : (r : ℕ) → length (poly r) ≡ r

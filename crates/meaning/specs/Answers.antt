@@ -74,11 +74,11 @@ sheetRefusals n s r =
     ∷ []
 
 -- 14, 15, 16: a word not as long as wanted, its first symbol above the top, an output shorter than needed
-unfoldable pub wordRefusals : ℕ → ℕ → ℕ → List ℕ → List ℕ → List Refusal
-wordRefusals wanted top needed w out =
+unfoldable pub wordRefusals : ℕ → ℕ → ℕ → List ℕ → ℕ → List Refusal
+wordRefusals wanted top needed w room =
     (not (eqb (length w) wanted) ⇒ BadLength)
     ∷ (ltb (firstPlace (ltb top) w) (length w) ⇒ BadSymbol (firstPlace (ltb top) w))
-    ∷ (ltb (length out) needed ⇒ ShortOutput)
+    ∷ (ltb room needed ⇒ ShortOutput)
     ∷ []
 
 -- ---- the sheet alone
@@ -103,7 +103,7 @@ writing new out a = record { answer = a; bytes = new ++ drop (length new) out }
 
 -- encoding uses 11 to 16, needs N bytes, answers 0 and writes N symbols
 unfoldable pub encodeRefusals : ℕ → List ℕ → ℕ → List ℕ → List ℕ → List Refusal
-encodeRefusals n s r p out = sheetRefusals n s r ++ wordRefusals (frees (rules n s) - r) 1 (2 ^ n) p out
+encodeRefusals n s r p out = sheetRefusals n s r ++ wordRefusals (frees (rules n s) - r) 1 (2 ^ n) p (length out)
 
 -- a symbol as a bit
 abbrev pub isOne : ℕ → Bool
@@ -114,7 +114,7 @@ encoding n s r p out = firstOf (leaving out) (encodeRefusals n s r p out) (writi
 
 -- read-back uses 11 to 16, needs K - r bytes, answers 0 with the payload or 2 where the word isn't a codeword
 unfoldable pub readRefusals : ℕ → List ℕ → ℕ → List ℕ → List ℕ → List Refusal
-readRefusals n s r w out = sheetRefusals n s r ++ wordRefusals (2 ^ n) 1 (frees (rules n s) - r) w out
+readRefusals n s r w out = sheetRefusals n s r ++ wordRefusals (2 ^ n) 1 (frees (rules n s) - r) w (length out)
 
 -- a word with nothing erased agrees with one codeword, or with none
 unfoldable pub payloadRead : ℕ → List Rule → ℕ → List (List Bool) → List ℕ → Reply
@@ -126,7 +126,7 @@ readingBack n s r w out = firstOf (leaving out) (readRefusals n s r w out) (payl
 
 -- decoding needs 3N bytes. 11 to 17: a fault of form, or no room to answer
 unfoldable pub formRefusals : ℕ → List ℕ → ℕ → ℕ → List ℕ → List ℕ → List Refusal
-formRefusals n s r c w out = sheetRefusals n s r ++ wordRefusals (2 ^ n) 2 (3 * 2 ^ n) w out ++ ((ltb largestCeiling c ⇒ BadCeiling) ∷ [])
+formRefusals n s r c w out = sheetRefusals n s r ++ wordRefusals (2 ^ n) 2 (3 * 2 ^ n) w (length out) ++ ((ltb largestCeiling c ⇒ BadCeiling) ∷ [])
 
 -- 11 to 18: then g above the ceiling
 unfoldable pub decodeRefusals : ℕ → List ℕ → ℕ → ℕ → List ℕ → List ℕ → List Refusal

@@ -8,6 +8,7 @@
 --     Strips       settled, first, last; the dimension d
 --     Answers      the numbers of each answer; the refusals and the results of each call
 --     Stream       the answer record, and the output for a whole input
+--     Payload      how a codeword is made of its payload
 --     Bench        01's starred examples as a table
 pub mod Limits
 pub mod Transform
@@ -18,4 +19,5 @@ pub mod Open
 pub mod Strips
 pub mod Answers
 pub mod Stream
+pub mod Payload
 pub mod Bench

@@ -1,0 +1,113 @@
+-- What is known where a table's rows do not apply.
+--     Good, good           a sheet that no refusal from 11 to 13 meets
+--     Worded, worded       a word, and room for the answer, that no refusal from 14 to 16 meets
+--     done-good            the same of a sheet that checking calls done
+--     bits-back            symbols up to 1 are bits
+use mathlib.Core.Path.{_≡_, refl, sym, ap, _∙_}
+use mathlib.Core.Logic.{_⊎_, inl, inr}
+use Prim.Native.Nat.{ℕ, zero, suc, _*_, _^_, _≤_}
+use native.Mathlib.Omega.{arith}
+use mathlib.Core.Bool.{Bool, true, false, _&&_, _||_, not, true≢false}
+use mathlib.Core.List.{List, [], _∷_, map}
+use lib.ListN.{length, getD}
+use lib.Dec.{eqb, leb, ltb}
+use borrow.Author.Tests.{ltb-false, leb-false, eqb-true, not-false, lt-ltb, le-ltb}
+use Rattle.bits.specs.Vectors.{bit, pick, firstPlace}
+use Rattle.bits.proofs.Tests.{or-false-l, or-false-r}
+use Rattle.meaning.specs.Limits.{largestN, recordBytes}
+use Rattle.meaning.specs.Sheet.{rules, badRecord, frees, early}
+use Rattle.meaning.specs.Answers.{refuses, badShape, badCheck, sheetRefusals, wordRefusals, checking, isOne, numbersOf}
+use Rattle.meaning.specs.declared.Answer.{Answer}
+use Rattle.meaning.specs.declared.Answer.the-variants.{Done, BadShape, BadRecord, BadCheck}
+use Rattle.meaning.proofs.Sound.{rules-early}
+
+-- ---- the sheet
+
+pub record Good (n : ℕ) (s : List ℕ) (r : ℕ) : Type 0 where
+  pub small : n ≤ largestN
+  pub long : length s ≡ 2 ^ n * recordBytes
+  pub sound : ltb (badRecord n s) (2 ^ n) ≡ false
+  pub ordered : early 0 (rules n s) ≡ true
+  pub check : (r ≡ 0) ⊎ ((r ≡ 6) ⊎ (r ≡ 11))
+  pub roomy : r ≤ frees (rules n s)
+
+check-length : (r k : ℕ) → badCheck r k ≡ false → (r ≡ 0) ⊎ ((r ≡ 6) ⊎ (r ≡ 11))
+unfolding badCheck
+check-length r k h =
+    go (eqb r 0) (eqb r 6) (eqb r 11) refl refl refl (or-false-l (not (eqb r 0 || eqb r 6 || eqb r 11)) _ h)
+  where
+    go : (a b c : Bool) → eqb r 0 ≡ a → eqb r 6 ≡ b → eqb r 11 ≡ c → not (a || b || c) ≡ false → (r ≡ 0) ⊎ ((r ≡ 6) ⊎ (r ≡ 11))
+    go true b c p q s e = inl (eqb-true r 0 p)
+    go false true c p q s e = inr (inl (eqb-true r 6 q))
+    go false false true p q s e = inr (inr (eqb-true r 11 s))
+    go false false false p q s e = absurd (true≢false e)
+
+check-room : (r k : ℕ) → badCheck r k ≡ false → r ≤ k
+unfolding badCheck
+check-room r k h = go (ltb 0 r) refl (or-false-r (not (eqb r 0 || eqb r 6 || eqb r 11)) _ h)
+  where
+    go : (b : Bool) → ltb 0 r ≡ b → b && leb k r ≡ false → r ≤ k
+    go true e q = omega (arith, leb-false k r q)
+    go false e q = omega (arith, ltb-false 0 r e)
+
+pub good : (n : ℕ) (s : List ℕ) (r : ℕ) → refuses (sheetRefusals n s r) ≡ false → Good n s r
+unfolding sheetRefusals badShape
+good n s r h =
+    let shape = or-false-l (badShape n s) _ h in
+    let rest = or-false-r (badShape n s) _ h in
+    let sound : ltb (badRecord n s) (2 ^ n) ≡ false = or-false-l (ltb (badRecord n s) (2 ^ n)) _ rest in
+    let check : badCheck r (frees (rules n s)) ≡ false = or-false-l (badCheck r (frees (rules n s))) _ (or-false-r (ltb (badRecord n s) (2 ^ n)) _ rest) in
+    record {
+      small = ltb-false largestN n (or-false-l (ltb largestN n) _ shape);
+      long = eqb-true (length s) (2 ^ n * recordBytes) (not-false _ (or-false-r (ltb largestN n) _ shape));
+      sound = sound;
+      ordered = rules-early n s sound;
+      check = check-length r (frees (rules n s)) check;
+      roomy = check-room r (frees (rules n s)) check;
+    }
+
+-- checking answers done exactly when no row applies
+pub done-none : (n : ℕ) (s : List ℕ) (r : ℕ) → Done ≡ checking n s r → refuses (sheetRefusals n s r) ≡ false
+unfolding checking sheetRefusals
+done-none n s r e = go (badShape n s) (ltb (badRecord n s) (2 ^ n)) (badCheck r (frees (rules n s))) (ap code e)
+  where
+    code : Answer → ℕ
+    code a = getD (numbersOf a) 0 0
+
+    go : (a b c : Bool) → 0 ≡ code (pick a BadShape (pick b (BadRecord (badRecord n s)) (pick c BadCheck Done))) → a || (b || (c || false)) ≡ false
+    go true b c q = absurd (omega arith)
+    go false true c q = absurd (omega arith)
+    go false false true q = absurd (omega arith)
+    go false false false q = refl
+
+pub done-good : (n : ℕ) (s : List ℕ) (r : ℕ) → Done ≡ checking n s r → Good n s r
+done-good n s r e = good n s r (done-none n s r e)
+
+-- ---- a word
+
+pub record Worded (wanted top needed : ℕ) (w : List ℕ) (room : ℕ) : Type 0 where
+  pub long : length w ≡ wanted
+  pub symbols : ltb (firstPlace (ltb top) w) (length w) ≡ false
+  pub roomy : needed ≤ room
+
+pub worded : (wanted top needed : ℕ) (w : List ℕ) (room : ℕ) → refuses (wordRefusals wanted top needed w room) ≡ false → Worded wanted top needed w room
+unfolding wordRefusals
+worded wanted top needed w room h =
+    let rest = or-false-r (not (eqb (length w) wanted)) _ h in
+    record {
+      long = eqb-true (length w) wanted (not-false _ (or-false-l (not (eqb (length w) wanted)) _ h));
+      symbols = or-false-l (ltb (firstPlace (ltb top) w) (length w)) _ rest;
+      roomy = ltb-false room needed (or-false-l (ltb room needed) _ (or-false-r (ltb (firstPlace (ltb top) w) (length w)) _ rest));
+    }
+
+later : (w : List ℕ) → ltb (suc (firstPlace (ltb 1) w)) (suc (length w)) ≡ false → ltb (firstPlace (ltb 1) w) (length w) ≡ false
+later w h = le-ltb (firstPlace (ltb 1) w) (length w) (omega (arith, ltb-false (suc (firstPlace (ltb 1) w)) (suc (length w)) h))
+
+-- symbols up to 1 are bits
+pub bits-back : (w : List ℕ) → ltb (firstPlace (ltb 1) w) (length w) ≡ false → map bit (map isOne w) ≡ w
+bits-back [] h = refl
+bits-back (zero ∷ w) h = ap {B = List ℕ} (λ l. 0 ∷ l) (bits-back w (later w h))
+bits-back (suc zero ∷ w) h = ap {B = List ℕ} (λ l. 1 ∷ l) (bits-back w (later w h))
+bits-back (suc (suc a) ∷ w) h =
+    let two : ltb 1 (suc (suc a)) ≡ true = lt-ltb 1 (suc (suc a)) (omega arith) in
+    absurd (true≢false (sym (lt-ltb 0 (suc (length w)) (omega arith)) ∙ ap (λ (b : Bool). ltb (pick b 0 (suc (firstPlace (ltb 1) w))) (suc (length w))) (sym two) ∙ h))
