@@ -1,3 +1,5 @@
 -- Records: a record's rules in the parts that the code tests. Checking: what checking a sheet answers, refusal by refusal.
+-- Transforming: the transform in place.
 pub mod Records
 pub mod Checking
+pub mod Transforming
