@@ -2,6 +2,7 @@
 ghost use mathlib.Core.Path.{_≡_};
 ghost use Rattle.meaning.specs.Answers.{checking};
 
+mod check;
 mod sheet;
 mod transform;
 

@@ -1,0 +1,155 @@
+-- Division by the check polynomial on words: one step of the register is one step of long division.
+--     step-is            a bit shifted in, and the polynomial subtracted where a 1 went out
+--     starts, more       feeding the register
+--     fed-zero           the remainder is zero exactly when the word is 0
+use mathlib.Core.Path.{_≡_, refl, sym, ap, ap₂, _∙_}
+use mathlib.Core.Logic.{_⊎_, ⊎-elim}
+use Prim.Native.Nat.{ℕ, zero, suc, _+_, _-_, _*_, _/_, _%_, _^_, _<_, _≤_}
+use native.Mathlib.Omega.{arith}
+use native.Mathlib.Nat.{pow-suc, div-one, mod-lt, div-div-eq-div-mul, div-eq-of-lt, div-eq-of-lt-le, zero-div}
+use native.Mathlib.Decide.{decLt}
+use mathlib.Core.Bool.{Bool, true, false, _&&_, not}
+use mathlib.Core.List.{List, [], _∷_, _++_, map, map-id, append-assoc, append-nil}
+use lib.ListN.{length, replicate}
+use lib.Dec.{eqb}
+use lib.Pow.{pow-pos}
+use lib.Bits.{bitXor, xor-block, xor-lt}
+use borrow.Author.Tests.{eq-eqb, ne-eqb, eqb-true, eqb-false}
+use Rattle.bits.specs.Vectors.{_⊕_, _⊞_, bit, pick, zeros}
+use Rattle.bits.specs.Words.{bitAt}
+use Rattle.bits.proofs.Xor.{none, ⊞-none}
+use Rattle.bits.proofs.Words.{bit-xor}
+use Rattle.meaning.specs.Limits.{leads}
+use Rattle.meaning.specs.Check.{poly, shift, rest, divides}
+use Rattle.meaning.proofs.Remainder.{rest-append, length-poly, scale-none}
+use Rattle.codec.specs.Register.{toBits, polyWord, Fed}
+
+-- ---- a word as its bits
+
+pub length-toBits : (r s : ℕ) → length (toBits r s) ≡ r
+unfolding toBits
+length-toBits zero s = refl
+length-toBits (suc r) s = ap suc (length-toBits r s)
+
+odd-sum : (x y : ℕ) → x < 2 → y < 2 → eqb ((x + y) % 2) 1 ≡ eqb x 1 ⊕ eqb y 1
+odd-sum zero zero p q = refl
+odd-sum zero (suc zero) p q = refl
+odd-sum (suc zero) zero p q = refl
+odd-sum (suc zero) (suc zero) p q = refl
+odd-sum zero (suc (suc y)) p q = absurd (omega arith)
+odd-sum (suc zero) (suc (suc y)) p q = absurd (omega arith)
+odd-sum (suc (suc x)) y p q = absurd (omega arith)
+
+toBits-xor : (r a b : ℕ) → toBits r (bitXor a b) ≡ toBits r a ⊞ toBits r b
+unfolding toBits
+toBits-xor zero a b = refl
+toBits-xor (suc r) a b =
+    ap₂ {C = List Bool} _∷_ (ap (λ (x : ℕ). eqb x 1) (bit-xor a b r) ∙ odd-sum (bitAt a r) (bitAt b r) (mod-lt (a / 2 ^ r) (omega arith)) (mod-lt (b / 2 ^ r) (omega arith))) (toBits-xor r a b)
+
+bit-small : (b : Bool) → bit b < 2
+bit-small true = omega arith
+bit-small false = omega arith
+
+-- a bit put in below
+below : (s : ℕ) (b : Bool) → (s * 2 + bit b) / 2 ≡ s
+below s true = omega arith
+below s false = omega arith
+
+lowest : (s : ℕ) (b : Bool) → eqb ((s * 2 + bit b) % 2) 1 ≡ b
+lowest s true = eq-eqb ((s * 2 + 1) % 2) 1 (omega arith)
+lowest s false = ne-eqb ((s * 2 + 0) % 2) 1 (λ e. omega arith)
+
+bit-suc : (t r : ℕ) → bitAt t (suc r) ≡ bitAt (t / 2) r
+bit-suc t r = ap (λ (x : ℕ). x % 2) (ap (λ (x : ℕ). t / x) (pow-suc 2 r ∙ omega arith) ∙ sym (div-div-eq-div-mul t 2 (2 ^ r)))
+
+toBits-put : (r s : ℕ) (b : Bool) → toBits (suc r) (s * 2 + bit b) ≡ toBits r s ++ (b ∷ [])
+unfolding toBits
+toBits-put zero s b = ap {B = List Bool} (λ x. x ∷ []) (ap (λ (x : ℕ). eqb (x % 2) 1) (div-one (s * 2 + bit b)) ∙ lowest s b)
+toBits-put (suc r) s b = ap₂ {C = List Bool} _∷_ (ap (λ (x : ℕ). eqb x 1) (bit-suc (s * 2 + bit b) r ∙ ap (λ (x : ℕ). bitAt x r) (below s b))) (toBits-put r s b)
+
+-- ---- the polynomial as a word
+
+pub record Divisor (r : ℕ) : Type 0 where
+  pub bits : toBits r (polyWord r) ≡ poly r
+  pub low : 2 ^ r ≤ polyWord r
+  pub high : polyWord r < 2 ^ suc r
+
+pub divisor : (r : ℕ) → (r ≡ 0) ⊎ ((r ≡ 6) ⊎ (r ≡ 11)) → Divisor r
+unfolding polyWord toBits poly
+divisor r = ⊎-elim (λ e. rw e (record { bits = refl; low = omega arith; high = omega arith }))
+    (⊎-elim (λ e. rw e (record { bits = refl; low = omega arith; high = omega arith })) (λ e. rw e (record { bits = refl; low = omega arith; high = omega arith })))
+
+-- ---- one step, by whether a 1 goes out
+
+module _ (r s : ℕ) (b : Bool) (d : Divisor r) (h : s < 2 ^ r) where
+  top-one : (k : ℕ) → r ≡ suc k → 2 ^ r ≤ s * 2 + bit b → eqb (bitAt s k) 1 ≡ true
+  top-one k e l =
+      let p : 2 ^ r ≡ 2 ^ k * 2 = ap (λ (x : ℕ). 2 ^ x) e ∙ pow-suc 2 k in
+      let q : s / 2 ^ k ≡ 1 = div-eq-of-lt-le {k = 1} (2 ^ k) {m = s} (omega (arith, bit-small b)) (omega arith) in
+      ap (λ (x : ℕ). eqb (x % 2) 1) q
+
+  top-zero : (k : ℕ) → r ≡ suc k → s * 2 + bit b < 2 ^ r → eqb (bitAt s k) 1 ≡ false
+  top-zero k e l =
+      let p : 2 ^ r ≡ 2 ^ k * 2 = ap (λ (x : ℕ). 2 ^ x) e ∙ pow-suc 2 k in
+      let q : s / 2 ^ k ≡ 0 = div-eq-of-lt (omega arith) in
+      ap (λ (x : ℕ). eqb (x % 2) 1) q
+
+  -- the remainder so far, shifted, with what is subtracted
+  shifted : (o : Bool) → ((k : ℕ) → r ≡ suc k → eqb (bitAt s k) 1 ≡ o) → shift (poly r) (toBits r s) b ≡ toBits r (s * 2 + bit b) ⊞ map (λ (x : Bool). o && x) (poly r)
+  unfolding toBits
+  shifted o f = go r refl
+    where
+      go : (m : ℕ) → r ≡ m → shift (poly m) (toBits m s) b ≡ toBits m (s * 2 + bit b) ⊞ map (λ (x : Bool). o && x) (poly m)
+      go zero e = refl
+      go (suc k) e =
+          ap₂ _⊞_ (sym (toBits-put k s b)) (ap (λ (t : Bool). map (λ (x : Bool). t && x) (poly (suc k))) (f k e))
+
+  pub step-over : 2 ^ r ≤ s * 2 + bit b → (bitXor (s * 2 + bit b) (polyWord r) < 2 ^ r) × (toBits r (bitXor (s * 2 + bit b) (polyWord r)) ≡ shift (poly r) (toBits r s) b)
+  step-over l =
+      let t : ℕ = s * 2 + bit b in
+      let p : ℕ = polyWord r in
+      let two : 2 ^ suc r ≡ 2 ^ r * 2 = pow-suc 2 r in
+      let et : t ≡ 1 * 2 ^ r + (t - 2 ^ r) = omega arith in
+      let ep : p ≡ 1 * 2 ^ r + (p - 2 ^ r) = omega (arith, d .low) in
+      let lt : t - 2 ^ r < 2 ^ r = omega (arith, bit-small b) in
+      let lp : p - 2 ^ r < 2 ^ r = omega (arith, d .low, d .high) in
+      let e : bitXor t p ≡ bitXor (t - 2 ^ r) (p - 2 ^ r) = ap₂ bitXor et ep ∙ xor-block r 1 1 (t - 2 ^ r) (p - 2 ^ r) lt lp ∙ omega arith in
+      (rw e (xor-lt r (t - 2 ^ r) (p - 2 ^ r) lt lp),
+      toBits-xor r t p ∙ ap (λ (g : List Bool). toBits r t ⊞ g) (d .bits ∙ sym (map-id (poly r))) ∙ sym (shifted true (λ k q. top-one k q l)))
+
+  pub step-under : s * 2 + bit b < 2 ^ r → toBits r (s * 2 + bit b) ≡ shift (poly r) (toBits r s) b
+  step-under l =
+      let t : ℕ = s * 2 + bit b in
+      sym (shifted false (λ k q. top-zero k q l) ∙ ap (λ (g : List Bool). toBits r t ⊞ g) (scale-none (poly r)) ∙ ⊞-none (toBits r t) (length (poly r)) (length-toBits r t ∙ sym (length-poly r)))
+
+-- ---- feeding the register
+
+zero-bits : (r : ℕ) → toBits r 0 ≡ replicate r false
+unfolding toBits
+zero-bits zero = refl
+zero-bits (suc r) = ap₂ {C = List Bool} _∷_ (ap (λ (x : ℕ). eqb (x % 2) 1) (zero-div (2 ^ r))) (zero-bits r)
+
+pub starts : (r : ℕ) → Fed r [] 0
+unfolding leads
+starts r = record { small = pow-pos r; is = zero-bits r }
+
+pub more : (r : ℕ) (v : List Bool) (s t : ℕ) (b : Bool) → Fed r v s → t < 2 ^ r → toBits r t ≡ shift (poly r) (toBits r s) b → Fed r (v ++ (b ∷ [])) t
+more r v s t b f l e = record {
+  small = l;
+  is = e ∙ ap (λ (x : List Bool). shift (poly r) x b) (f .is) ∙ sym (rest-append (poly r) (replicate r false) (leads r ++ v) (b ∷ [])) ∙ ap (rest (poly r) (replicate r false)) (append-assoc (leads r) v (b ∷ []));
+}
+
+-- the remainder is zero exactly when the word is 0
+word-zero : (r s : ℕ) → s < 2 ^ r → zeros (toBits r s) ≡ eqb s 0
+unfolding toBits
+word-zero zero s h = sym (eq-eqb s 0 (omega arith))
+word-zero (suc r) s h = go (decLt s (2 ^ r)) (word-zero r s)
+  where
+    go : Dec (s < 2 ^ r) → (s < 2 ^ r → zeros (toBits r s) ≡ eqb s 0) → not (eqb (bitAt s r) 1) && zeros (toBits r s) ≡ eqb s 0
+    go (yes l) f = ap (λ (x : ℕ). not (eqb (x % 2) 1) && zeros (toBits r s)) (div-eq-of-lt l) ∙ f l
+    go (no l) f =
+        let q : s / 2 ^ r ≡ 1 = div-eq-of-lt-le {k = 1} (2 ^ r) {m = s} (omega arith) (omega (arith, pow-suc 2 r)) in
+        ap (λ (x : ℕ). not (eqb (x % 2) 1) && zeros (toBits r s)) q ∙ sym (ne-eqb s 0 (λ e. omega (arith, pow-pos r)))
+
+pub fed-zero : (r : ℕ) (v : List Bool) (s : ℕ) → Fed r v s → divides r (leads r ++ v) ≡ eqb s 0
+fed-zero r v s f = ap zeros (sym (f .is)) ∙ word-zero r s (f .small)
