@@ -2,15 +2,17 @@
 --     step-is            a bit shifted in, and the polynomial subtracted where a 1 went out
 --     starts, more       feeding the register
 --     fed-zero           the remainder is zero exactly when the word is 0
-use mathlib.Core.Path.{_≡_, refl, sym, ap, ap₂, _∙_}
+use mathlib.Core.Path.{_≡_, refl, sym, ap, ap₂, _∙_, subst}
 use mathlib.Core.Logic.{_⊎_, ⊎-elim}
 use Prim.Native.Nat.{ℕ, zero, suc, _+_, _-_, _*_, _/_, _%_, _^_, _<_, _≤_}
 use native.Mathlib.Omega.{arith}
 use native.Mathlib.Nat.{pow-suc, div-one, mod-lt, div-div-eq-div-mul, div-eq-of-lt, div-eq-of-lt-le, zero-div}
+use native.Mathlib.Numerals.{add-one}
 use native.Mathlib.Decide.{decLt}
 use mathlib.Core.Bool.{Bool, true, false, _&&_, not}
-use mathlib.Core.List.{List, [], _∷_, _++_, map, map-id, append-assoc, append-nil}
-use lib.ListN.{length, replicate}
+use mathlib.Core.List.{List, [], _∷_, _++_, map, map-id, map-append, append-assoc, append-nil}
+use lib.ListN.{length, take, getD, replicate}
+use lib.Seq.{take-suc}
 use lib.Dec.{eqb}
 use lib.Pow.{pow-pos}
 use lib.Bits.{bitXor, xor-block, xor-lt}
@@ -21,8 +23,9 @@ use Rattle.bits.proofs.Xor.{none, ⊞-none}
 use Rattle.bits.proofs.Words.{bit-xor}
 use Rattle.meaning.specs.Limits.{leads}
 use Rattle.meaning.specs.Check.{poly, shift, rest, divides}
+use Rattle.meaning.specs.Answers.{isOne}
 use Rattle.meaning.proofs.Remainder.{rest-append, length-poly, scale-none}
-use Rattle.codec.specs.Register.{toBits, polyWord, Fed}
+use Rattle.codec.specs.Register.{toBits, polyWord, AreBits, Fed}
 
 -- ---- a word as its bits
 
@@ -153,3 +156,51 @@ word-zero (suc r) s h = go (decLt s (2 ^ r)) (word-zero r s)
 
 pub fed-zero : (r : ℕ) (v : List Bool) (s : ℕ) → Fed r v s → divides r (leads r ++ v) ≡ eqb s 0
 fed-zero r v s f = ap zeros (sym (f .is)) ∙ word-zero r s (f .small)
+
+-- ---- the loops
+
+pub length-small : (r : ℕ) → (r ≡ 0) ⊎ ((r ≡ 6) ⊎ (r ≡ 11)) → (r ≤ 11) × (2 ^ r ≤ 2 ^ 11)
+length-small r = ⊎-elim (λ e. rw e (omega arith, omega arith)) (⊎-elim (λ e. rw e (omega arith, omega arith)) (λ e. rw e (omega arith, omega arith)))
+
+getD-map : {A B : Type 0} (f : A → B) (l : List A) (i : ℕ) (a : A) → getD (map f l) i (f a) ≡ f (getD l i a)
+getD-map f [] i a = refl
+getD-map f (x ∷ l) zero a = refl
+getD-map f (x ∷ l) (suc i) a = getD-map f l i a
+
+take-map : {A B : Type 0} (f : A → B) (i : ℕ) (l : List A) → take i (map f l) ≡ map f (take i l)
+take-map f zero l = refl
+take-map f (suc i) [] = refl
+take-map {B = B} f (suc i) (x ∷ l) = ap {B = List B} (λ t. f x ∷ t) (take-map f i l)
+
+module _ (l : List ℕ) (i : ℕ) (a : AreBits l) (h : i < length l) where
+  -- byte i is a bit
+  pub is-bit : getD l i 0 ≡ bit (isOne (getD l i 0))
+  is-bit = ap (λ (m : List ℕ). getD m i 0) (sym a) ∙ getD-map bit (map isOne l) i false ∙ ap bit (getD-map isOne l i 0)
+
+  taken : map isOne (take (i + 1) l) ≡ map isOne (take i l) ++ (isOne (getD l i 0) ∷ [])
+  taken = rw (add-one i, take-suc l i 0 h) (map-append isOne (take i l) (getD l i 0 ∷ []))
+
+  module _ (r s : ℕ) (d : Divisor r) (f : Fed r (map isOne (take i l)) s) where
+    pub feed-over : 2 ^ r ≤ s * 2 + getD l i 0 → Fed r (map isOne (take (i + 1) l)) (bitXor (s * 2 + getD l i 0) (polyWord r))
+    feed-over k =
+        let b : Bool = isOne (getD l i 0) in
+        let (low, e) = step-over r s b d (f .small) (rw (← is-bit) k) in
+        rw taken (subst (λ (x : ℕ). Fed r (map isOne (take i l) ++ (b ∷ [])) (bitXor (s * 2 + x) (polyWord r))) (sym is-bit) (more r (map isOne (take i l)) s (bitXor (s * 2 + bit b) (polyWord r)) b f low e))
+
+    pub feed-under : s * 2 + getD l i 0 < 2 ^ r → Fed r (map isOne (take (i + 1) l)) (s * 2 + getD l i 0)
+    feed-under k =
+        let b : Bool = isOne (getD l i 0) in
+        let low : s * 2 + bit b < 2 ^ r = rw (← is-bit) k in
+        rw taken (subst (λ (x : ℕ). Fed r (map isOne (take i l) ++ (b ∷ [])) (s * 2 + x)) (sym is-bit) (more r (map isOne (take i l)) s (s * 2 + bit b) b f low (step-under r s b d (f .small) low)))
+
+-- place i of a word's bits, highest first
+pub bits-at : (r s i : ℕ) → i < r → getD (map bit (toBits r s)) i 0 ≡ bitAt s (r - 1 - i)
+unfolding toBits
+bits-at zero s i h = absurd (omega arith)
+bits-at (suc r) s zero h = bit-one (bitAt s r) (mod-lt (s / 2 ^ r) (omega arith)) ∙ ap (bitAt s) (omega arith)
+  where
+    bit-one : (x : ℕ) → x < 2 → bit (eqb x 1) ≡ x
+    bit-one zero q = refl
+    bit-one (suc zero) q = refl
+    bit-one (suc (suc x)) q = absurd (omega arith)
+bits-at (suc r) s (suc i) h = bits-at r s i (omega arith) ∙ ap (bitAt s) (omega arith)

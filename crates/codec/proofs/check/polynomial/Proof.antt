@@ -1,3 +1,5 @@
+use Rattle.codec.specs.Register.{polyWord}
+use borrow.Author.Tests.{ne-eqb}
 use borrow.Author.Needs.{needs}
 use native.Mathlib.Omega.{arith}
 use Rattle.codec.proofs.check.polynomial.Statement.{statement}
@@ -7,15 +9,18 @@ use Rattle.codec.proofs.check.polynomial.Lts as lts
 
 -- src/check.rt:12:1
 returns : tie.Need-returns
-returns c = search needs
+unfolding polyWord
+returns c = rw (c .match .keys1)
 
 -- src/check.rt:12:1
 returns-2 : tie.Need-returns-2
-returns-2 c = search needs
+unfolding polyWord
+returns-2 c = rw (c .match .keys2)
 
 -- src/check.rt:12:1
 returns-3 : tie.Need-returns-3
-returns-3 c = search needs
+unfolding polyWord
+returns-3 c = rw (ne-eqb (c .before .args .r) 6 (c .match .rest .0 .1), ne-eqb (c .before .args .r) 11 (c .match .rest .1))
 
 pub polynomial-spec : {M : Type 1} → statement M
 polynomial-spec = tie.close (tie.spec returns returns-2 returns-3)

@@ -1,3 +1,16 @@
+use Prim.Native.Nat.{_<_, _/_, _^_}
+use native.Mathlib.Nat.{mod-lt}
+use native.Mathlib.Numerals.{add-one}
+use lib.ListN.{length-map, length-set}
+use lib.Seq.{take-suc, take-suc-set, take-all}
+use Rattle.bits.specs.Words.{bitAt}
+use Rattle.codec.proofs.Register.{length-toBits, bits-at}
+use mathlib.Core.Path.{_≡_, refl, sym, ap, _∙_}
+use mathlib.Core.List.{map}
+use Prim.Native.Nat.{ℕ, _-_, _≤_}
+use lib.ListN.{length, take}
+use Rattle.bits.specs.Vectors.{bit}
+use Rattle.codec.specs.Register.{toBits}
 use borrow.Author.Needs.{needs}
 use native.Mathlib.Omega.{arith}
 use Rattle.codec.proofs.check.spell.Statement.{statement}
@@ -6,14 +19,14 @@ use Rattle.codec.proofs.check.spell.Reads as reads
 use Rattle.codec.proofs.check.spell.Lts as lts
 
 abbrev Inv-loop : tie.InvT-loop
-Inv-loop s out₀ r i₀ out i = ?
+Inv-loop s out₀ r i₀ out i = (i ≤ r) × (r ≡ length out₀) × (length out ≡ r) × (take i out ≡ take i (map bit (toBits r s)))
 
 abbrev μ-loop : tie.MeasureT-loop
-μ-loop s out₀ r i₀ out i = ?
+μ-loop s out₀ r i₀ out i = r - i
 
 -- src/check.rt:48:5
 loop-holds : tie.Need-loop-holds Inv-loop μ-loop
-loop-holds c = search needs
+loop-holds c = (omega arith, refl, refl, refl)
 
 -- src/check.rt:49:26
 sub-out : tie.Need-sub-out Inv-loop μ-loop
@@ -25,11 +38,11 @@ sub-out-2 c = search needs
 
 -- src/check.rt:49:20
 shr-out : tie.Need-shr-out Inv-loop μ-loop
-shr-out c = search needs
+shr-out c = omega arith
 
 -- src/check.rt:49:18
 cast-out : tie.Need-cast-out Inv-loop μ-loop
-cast-out c = search needs
+cast-out c = record { fits = omega (arith, mod-lt (c .before .before .args .s / 2 ^ (length (c .before .before .args .out .now) - 1 - c .before .loop .i)) {m = 2} (omega arith)) }
 
 -- src/check.rt:49:9
 slice-write-out : tie.Need-slice-write-out Inv-loop μ-loop
@@ -45,7 +58,18 @@ loop-less c = search needs
 
 -- src/check.rt:48:5
 loop-again : tie.Need-loop-again Inv-loop μ-loop
-loop-again c = search needs
+loop-again c =
+    let out = c .before .loop .out in
+    let i = c .before .loop .i in
+    let inv = c .before .loop .inv in
+    let r = length (c .before .before .args .out .now) in
+    let s = c .before .before .args .s in
+    let bits = map bit (toBits r s) in
+    let lb : length bits ≡ r = length-map (toBits r s) bit ∙ length-toBits r s in
+    let here : i < length bits = omega arith in
+    let there : i < length out = omega arith in
+    (omega arith, refl, length-set out i _ ∙ inv .2,
+    rw (add-one i, take-suc-set out i (bitAt s (r - 1 - i)), take-suc bits i 0, inv .3, bits-at r s i (omega arith)))
 
 -- src/check.rt:42:1
 same-length : tie.Need-same-length Inv-loop μ-loop
@@ -53,7 +77,13 @@ same-length c = search needs
 
 -- src/check.rt:42:1
 returns : tie.Need-returns Inv-loop μ-loop
-returns c = search needs
+returns c =
+    let i = c .before .loop .i in
+    let inv = c .before .loop .inv in
+    let r = length (c .before .before .args .out .now) in
+    let bits = map bit (toBits r (c .before .before .args .s)) in
+    let lb : length bits ≡ r = length-map (toBits r (c .before .before .args .s)) bit ∙ length-toBits r (c .before .before .args .s) in
+    sym (take-all i (c .before .loop .out) (omega arith)) ∙ inv .3 ∙ take-all i bits (omega arith)
 
 pub spell-spec : {M : Type 1} → statement M
 spell-spec =

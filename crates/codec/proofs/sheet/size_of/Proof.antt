@@ -1,3 +1,4 @@
+use Rattle.codec.proofs.Records.{shl-one}
 use Prim.Native.Nat.{_^_}
 use native.Mathlib.Nat.{one-mul, mod-eq-of-lt}
 use native.Mathlib.Omega.{arith}
@@ -12,7 +13,7 @@ shl-result c = omega arith
 
 returns : tie.Need-returns
 unfolding largestN
-returns c = rw (one-mul (2 ^ c .args .n)) (mod-eq-of-lt (pow-lt {j = 64} (omega arith)))
+returns c = shl-one (c .args .n) (omega arith)
 
 pub size-of-spec : {M : Type 1} → statement M
 size-of-spec = tie.close (tie.spec shl-result returns)
