@@ -3,7 +3,7 @@ use mathlib.Core.Path.{_≡_, refl, sym, ap, ap₂, _∙_}
 use mathlib.Core.Logic.{⊎-elim}
 use Prim.Native.Nat.{ℕ, zero, suc, _+_, _≤_, _<_}
 use native.Mathlib.Omega.{arith}
-use native.Mathlib.Nat.{zero-add}
+use native.Mathlib.Nat.{zero-add, suc-add}
 use mathlib.Core.Bool.{Bool, true, false, _&&_, _||_, false≢true, true≢false}
 use mathlib.Core.List.{List, [], _∷_, _++_, map, Sublistᴰ, Sublistᴰ·slnil, Sublistᴰ·cons, Sublistᴰ·cons-cons, List·Memᴰ, List·Memᴰ·head, List·Memᴰ·tail, List·Memᴰ·not-nil, List·Memᴰ·cases-cons}
 use lib.ListN.{length, drop, getD, drop-of-length-le}
@@ -155,6 +155,17 @@ module _ {A : Type 0} where
   pub tab-getD : (l : List A) (d : A) (f : ℕ → A) → ((i : ℕ) → i < length l → f i ≡ getD l i d) → tab (length l) f ≡ l
   tab-getD [] d f h = refl
   tab-getD (b ∷ l) d f h = ap₂ {C = List A} _∷_ (h zero (omega arith)) (tab-getD l d (λ (i : ℕ). f (suc i)) (λ i q. h (suc i) (omega arith)))
+
+pub tab-below : {A : Type 0} (n : ℕ) (f g : ℕ → A) → ((i : ℕ) → i < n → f i ≡ g i) → tab n f ≡ tab n g
+tab-below zero f g h = refl
+tab-below {A} (suc n) f g h = ap₂ {C = List A} _∷_ (h zero (omega arith)) (tab-below n (λ (i : ℕ). f (suc i)) (λ (i : ℕ). g (suc i)) (λ i l. h (suc i) (omega arith)))
+
+pub tab-ext : {A : Type 0} (n : ℕ) (f g : ℕ → A) → ((i : ℕ) → f i ≡ g i) → tab n f ≡ tab n g
+tab-ext n f g h = tab-below n f g (λ i l. h i)
+
+pub tab-append : {A : Type 0} (m n : ℕ) (f : ℕ → A) → tab (m + n) f ≡ tab m f ++ tab n (λ (i : ℕ). f (m + i))
+tab-append zero n f = rw (zero-add n) (tab-ext n f (λ (i : ℕ). f (zero + i)) (λ i. ap f (sym (zero-add i))))
+tab-append {A} (suc m) n f = rw (suc-add m n) (ap {B = List A} (λ t. f zero ∷ t) (tab-append m n (λ (i : ℕ). f (suc i)) ∙ ap (λ (t : List A). tab m (λ (i : ℕ). f (suc i)) ++ t) (tab-ext n _ _ (λ i. ap f (sym (suc-add m i))))))
 
 -- ---- a search from the front: what is left to do at place i
 

@@ -4,3 +4,4 @@ pub mod Records
 pub mod Checking
 pub mod Transforming
 pub mod Register
+pub mod Packing

@@ -62,7 +62,7 @@ lowest : (s : ℕ) (b : Bool) → eqb ((s * 2 + bit b) % 2) 1 ≡ b
 lowest s true = eq-eqb ((s * 2 + 1) % 2) 1 (omega arith)
 lowest s false = ne-eqb ((s * 2 + 0) % 2) 1 (λ e. omega arith)
 
-bit-suc : (t r : ℕ) → bitAt t (suc r) ≡ bitAt (t / 2) r
+pub bit-suc : (t r : ℕ) → bitAt t (suc r) ≡ bitAt (t / 2) r
 bit-suc t r = ap (λ (x : ℕ). x % 2) (ap (λ (x : ℕ). t / x) (pow-suc 2 r ∙ omega arith) ∙ sym (div-div-eq-div-mul t 2 (2 ^ r)))
 
 toBits-put : (r s : ℕ) (b : Bool) → toBits (suc r) (s * 2 + bit b) ≡ toBits r s ++ (b ∷ [])

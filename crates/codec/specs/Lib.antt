@@ -2,3 +2,4 @@
 pub mod Records
 pub mod Bytes
 pub mod Register
+pub mod Packed
