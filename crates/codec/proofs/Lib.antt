@@ -5,3 +5,4 @@ pub mod Checking
 pub mod Transforming
 pub mod Register
 pub mod Packing
+pub mod Placing

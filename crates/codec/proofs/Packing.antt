@@ -8,7 +8,7 @@ use mathlib.Core.Path.{_≡_, refl, sym, ap, ap₂, _∙_}
 use mathlib.Core.Logic.{_⊎_, inl, inr}
 use Prim.Native.Nat.{ℕ, zero, suc, _+_, _-_, _*_, _/_, _%_, _^_, _<_, _≤_}
 use native.Mathlib.Omega.{arith}
-use native.Mathlib.Nat.{suc-inj, pow-suc, div-one, mod-lt, zero-add, suc-add, zero-div}
+use native.Mathlib.Nat.{suc-inj, pow-suc, div-one, mod-lt, zero-add, suc-add, zero-div, zero-mul, one-mul}
 use native.Mathlib.Decide.{decLt, ℕ-discrete}
 use native.Mathlib.Numerals.{add-one}
 use mathlib.Core.Bool.{Bool, true, false, _&&_, not}
@@ -17,6 +17,7 @@ use lib.ListN.{length, take, drop, getD, set, length-take, length-drop, drop-of-
 use lib.Seq.{drop-cons, getD-take, getD-drop, getD-set-same, getD-set-other, getD-append-seam}
 use lib.Dec.{eqb, eqb·suc-suc}
 use lib.Bits.{bitAnd, bitXor, and-zero-l, and-shr, and-mod, shifted-even, shifted-half}
+use lib.Pow.{pow-lt}
 use lib.Count.{ones, ones-step}
 use borrow.Author.Tests.{eq-eqb, ne-eqb, eqb-false}
 use Rattle.bits.specs.Vectors.{_⊕_, bit, pick, tab}
@@ -64,6 +65,9 @@ parity-bits (suc w) a b h =
     let sum : parityOf a b ≡ (bit A + bit o) % 2 = omega (arith, ones-step (bitAnd a b), low, high, ih) in
     sum ∙ sum-bit A o ∙ ap₂ (λ (m u : List Bool). bit (odd m u)) (sym (bits-suc w a)) (sym (bits-suc w b))
 
+pub parity-low : (a b : ℕ) → parityOf a b < 2
+parity-low a b = mod-lt (ones (bitAnd a b)) (omega arith)
+
 -- ---- lists of words
 
 odd-append : (m m′ u u′ : List Bool) → length m ≡ length u → odd (m ++ m′) (u ++ u′) ≡ odd m u ⊕ odd m′ u′
@@ -83,6 +87,10 @@ bit-back : (x : ℕ) → x < 2 → x ≡ bit (isOne x)
 bit-back zero h = refl
 bit-back (suc zero) h = refl
 bit-back (suc (suc x)) h = absurd (omega arith)
+
+pub flipped : (p : Bool) → bitXor (bit p) 1 ≡ bit (true ⊕ p)
+flipped true = refl
+flipped false = refl
 
 -- what is left to count of the words ms and v from word k on, with o so far
 abbrev pub Counting : ℕ → List ℕ → List ℕ → ℕ → ℕ → Type 0
@@ -190,6 +198,12 @@ holds-none k j = go (replicate k 0) (zero-at k) (decLt j (8 * length (replicate 
     go v z (no h) = past (held v) j (omega (arith, held-length v))
 
 -- ---- one value more
+
+pub small-shift : (b k : ℕ) → b < 2 → k < 8 → b * 2 ^ k < 2 ^ 8
+small-shift zero k hb hk = rw (zero-mul (2 ^ k)) (omega arith)
+small-shift (suc zero) k hb hk = rw (one-mul (2 ^ k)) (pow-lt hk)
+small-shift (suc (suc b)) k hb hk = absurd (omega arith)
+
 
 one-bit : (b : Bool) (t k : ℕ) → bitAt (bit b * 2 ^ t) k ≡ pick (eqb k t) (bit b) 0
 one-bit b zero zero = ap (λ (x : ℕ). x % 2) (div-one (bit b * 1)) ∙ small b

@@ -49,7 +49,7 @@ toBits-xor zero a b = refl
 toBits-xor (suc r) a b =
     ap₂ {C = List Bool} _∷_ (ap (λ (x : ℕ). eqb x 1) (bit-xor a b r) ∙ odd-sum (bitAt a r) (bitAt b r) (mod-lt (a / 2 ^ r) (omega arith)) (mod-lt (b / 2 ^ r) (omega arith))) (toBits-xor r a b)
 
-bit-small : (b : Bool) → bit b < 2
+pub bit-small : (b : Bool) → bit b < 2
 bit-small true = omega arith
 bit-small false = omega arith
 
@@ -162,7 +162,7 @@ fed-zero r v s f = ap zeros (sym (f .is)) ∙ word-zero r s (f .small)
 pub length-small : (r : ℕ) → (r ≡ 0) ⊎ ((r ≡ 6) ⊎ (r ≡ 11)) → (r ≤ 11) × (2 ^ r ≤ 2 ^ 11)
 length-small r = ⊎-elim (λ e. rw e (omega arith, omega arith)) (⊎-elim (λ e. rw e (omega arith, omega arith)) (λ e. rw e (omega arith, omega arith)))
 
-getD-map : {A B : Type 0} (f : A → B) (l : List A) (i : ℕ) (a : A) → getD (map f l) i (f a) ≡ f (getD l i a)
+pub getD-map : {A B : Type 0} (f : A → B) (l : List A) (i : ℕ) (a : A) → getD (map f l) i (f a) ≡ f (getD l i a)
 getD-map f [] i a = refl
 getD-map f (x ∷ l) zero a = refl
 getD-map f (x ∷ l) (suc i) a = getD-map f l i a

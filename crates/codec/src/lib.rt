@@ -3,6 +3,7 @@ ghost use mathlib.Core.Path.{_≡_};
 ghost use Rattle.meaning.specs.Answers.{checking};
 
 mod check;
+mod rules;
 mod sheet;
 mod transform;
 

@@ -14,6 +14,7 @@ pub const LARGEST_N: usize = 7;
 
 pub const RECORD: usize = 20;
 
+pub const MASK: usize = 16;
 pub const POSITIONS: usize = 128;
 
 // N, 2 to the n.
@@ -25,7 +26,7 @@ pub fn size_of(n: usize) -> usize
 }
 
 // Byte k of record i.
-fn byte_at(sheet: &[u8], i: usize, k: usize) -> u8
+pub fn byte_at(sheet: &[u8], i: usize, k: usize) -> u8
     requires { ⌜ (k < recordBytes) × ((i + 1) * recordBytes ≤ length (now sheet)) ⌝ }
     ensures { λ r. ⌜ r ≡ byte (now (sheet .entry)) i k ⌝ }
 {
