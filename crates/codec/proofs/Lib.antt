@@ -1,8 +1,11 @@
--- Records: a record's rules in the parts that the code tests. Checking: what checking a sheet answers, refusal by refusal.
--- Transforming: the transform in place. Register: the check's division on words.
+-- Records: a record's rules in the parts that the code tests. Checking, Wording: what checking a sheet or a word answers, refusal by refusal.
+-- Transforming: the transform in place. Division: the check's division on words. Packing: values packed into words.
+-- Placing: the vector that the rules give, and its free bits. Sending: from a payload to its codeword.
 pub mod Records
 pub mod Checking
+pub mod Wording
 pub mod Transforming
-pub mod Register
+pub mod Division
 pub mod Packing
 pub mod Placing
+pub mod Sending

@@ -30,7 +30,7 @@ use Rattle.meaning.specs.Sheet.{names, mask, byte}
 use Rattle.meaning.specs.Check.{odd}
 use Rattle.meaning.specs.Answers.{isOne}
 use Rattle.codec.specs.Packed.{bitsOf, unpacked, held, Holds, maskOf}
-use Rattle.codec.proofs.Register.{bit-suc}
+use Rattle.codec.proofs.Division.{bit-suc}
 
 -- ---- two words
 

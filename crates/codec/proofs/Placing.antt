@@ -21,9 +21,9 @@ use Rattle.meaning.specs.Sheet.{byte, mask, Rule, free, frozen, ruleAt, frees}
 use Rattle.meaning.specs.Check.{odd, freeBits}
 use Rattle.meaning.specs.Payload.{place}
 use Rattle.meaning.specs.Answers.{isOne}
-use Rattle.codec.specs.Register.{AreBits}
+use Rattle.codec.specs.Division.{AreBits}
 use Rattle.codec.specs.Packed.{held, Holds}
-use Rattle.codec.proofs.Register.{is-bit, bit-small, getD-map}
+use Rattle.codec.proofs.Division.{is-bit, bit-small, getD-map}
 use Rattle.codec.proofs.Packing.{holds-none, holds-more, odd-held}
 
 -- ---- the rule of a position

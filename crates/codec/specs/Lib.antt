@@ -1,5 +1,7 @@
--- Records: the rules for a record in the parts that the code tests. Bytes: the transform over bytes. Register: the check's remainder as a word.
+-- Records: the rules for a record in the parts that the code tests. Bytes: the transform over bytes. Division: the check's remainder as a word.
+-- Packed: values packed into words. Ready: what is known once nothing is refused.
 pub mod Records
 pub mod Bytes
-pub mod Register
+pub mod Division
 pub mod Packed
+pub mod Ready

@@ -1,11 +1,25 @@
-// The code sheet's check. Every function here is total: what is faulty is refused with its number, in 01's order.
+// The code sheet's check, encoding and read-back. Every function here is total: what is faulty is refused with its number,
+// in 01's order, and a refusal leaves the output as found.
 ghost use mathlib.Core.Path.{_≡_};
-ghost use Rattle.meaning.specs.Answers.{checking};
+ghost use mathlib.Core.Logic.{_⊎_};
+ghost use mathlib.Core.List.{map, _++_};
+ghost use Prim.Native.Nat.{_+_, _^_};
+ghost use lib.ListN.{length};
+ghost use Rattle.bits.specs.Vectors.{bit};
+ghost use Rattle.meaning.specs.Limits.{leads};
+ghost use Rattle.meaning.specs.Transform.{polar};
+ghost use Rattle.meaning.specs.Sheet.{rules};
+ghost use Rattle.meaning.specs.Check.{poly};
+ghost use Rattle.meaning.specs.Payload.{remainder, encoded};
+ghost use Rattle.codec.specs.Division.{AreBits};
+ghost use Rattle.codec.specs.Ready.{Ready};
+ghost use Rattle.meaning.specs.Answers.{checking, wording, encoding, leaving, isOne};
 
-mod check;
+mod register;
 mod rules;
 mod sheet;
 mod transform;
+mod word;
 
 use meaning::Answer;
 
@@ -30,5 +44,67 @@ pub fn check_sheet(n: usize, sheet: &[u8], r: usize) -> Answer
     if sheet::bad_check(r, k) {
         return Answer::BadCheck;
     }
+    Answer::Done
+}
+
+// Checks a word that is to be `wanted` symbols long, none above `top`, whose call is given `room` bytes and needs `needed`.
+// Answers Done, or BadLength (14), BadSymbol (15: the place of the first symbol above `top`), ShortOutput (16); the first
+// that applies.
+pub fn check_word(word: &[u8], wanted: usize, top: u8, room: usize, needed: usize) -> Answer
+    ensures { λ a. ⌜ a ≡ wording wanted top needed (now (word .entry)) room ⌝ }
+{
+    if word.len() != wanted {
+        return Answer::BadLength;
+    }
+    let place = word::first_above(word, top);
+    if place < word.len() {
+        return Answer::BadSymbol { place };
+    }
+    if room < needed {
+        return Answer::ShortOutput;
+    }
+    Answer::Done
+}
+
+// The K free bits of a payload: the payload, then its r check bits.
+fn with_check(payload: &[u8], r: usize, free: &mut [u8])
+    requires { ⌜ ((r ≡ 0) ⊎ ((r ≡ 6) ⊎ (r ≡ 11))) ⌝ }
+    requires { ⌜ AreBits (now payload) × (length (now free) ≡ length (now payload) + r) ⌝ }
+    ensures { λ _. ⌜ now (free .exit) ≡ map bit (map isOne (now (payload .entry)) ++ remainder (poly r) (leads r ++ map isOne (now (payload .entry)))) ⌝ }
+{
+    bytes::copy(payload, free);
+    let s = register::flush(register::feed(payload, r), r);
+    let k = payload.len();
+    register::spell(s, &mut free[k..]);
+}
+
+// Writes the codeword of a payload into a block of N symbols; the sheet and the payload are not refused.
+fn send(n: usize, sheet: &[u8], r: usize, payload: &[u8], k: usize, x: &mut [u8])
+    requires { ⌜ Ready n (now sheet) r (now payload) k × (length (now x) ≡ 2 ^ n) ⌝ }
+    ensures { λ _. ⌜ now (x .exit) ≡ map bit (polar n (encoded (rules n (now (sheet .entry))) r (map isOne (now (payload .entry))))) ⌝ }
+{
+    let mut free = [0u8; 128];
+    with_check(payload, r, &mut free[0..k]);
+    rules::place_bits(sheet, &free[0..k], x);
+    transform::transform(x, n);
+}
+
+// Writes the codeword of a payload: K - r bytes of 0 or 1, K the number of free positions of the sheet.
+// Answers Done and writes N symbols, later bytes as found; or refuses by 11 to 16 (check_sheet; 14: the payload is not K - r
+// long; 15: the first payload bit above 1; 16: the output is shorter than N) and leaves the output as found.
+pub fn encode(n: usize, sheet: &[u8], r: usize, payload: &[u8], out: &mut [u8]) -> Answer
+    ensures { λ a. ⌜ leaving (now (out .exit)) a ≡ encoding n (now (sheet .entry)) r (now (payload .entry)) (now (out .entry)) ⌝ }
+{
+    let a = check_sheet(n, sheet, r);
+    let Answer::Done = a else {
+        return a;
+    };
+    let size = sheet::size_of(n);
+    let k = sheet::frees(sheet, size);
+    let b = check_word(payload, k - r, 1, out.len(), size);
+    let Answer::Done = b else {
+        return b;
+    };
+    send(n, sheet, r, payload, k, &mut out[0..size]);
     Answer::Done
 }

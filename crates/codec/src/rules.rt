@@ -11,7 +11,7 @@ ghost use Rattle.meaning.specs.Sheet.{byte, mask, ruleAt, frees};
 ghost use Rattle.meaning.specs.Check.{odd, freeBits};
 ghost use Rattle.meaning.specs.Payload.{place};
 ghost use Rattle.meaning.specs.Answers.{isOne};
-ghost use Rattle.codec.specs.Register.{AreBits};
+ghost use Rattle.codec.specs.Division.{AreBits};
 ghost use Rattle.codec.specs.Packed.{held};
 
 use crate::sheet;

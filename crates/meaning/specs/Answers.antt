@@ -4,6 +4,7 @@
 --     refuses              whether a row applies
 --     Reply                an answer, and the bytes of the output buffer after the call
 --     checking             the sheet alone, with its r
+--     wording              a word alone
 --     encoding, readingBack, decoding      the calls with a buffer
 -- `s` is the sheet, `w` the word, `p` the payload, `c` the ceiling, `out` the buffer as found.
 use Prim.Native.Nat.{ℕ, _*_, _-_, _^_}
@@ -85,6 +86,11 @@ wordRefusals wanted top needed w room =
 
 unfoldable pub checking : ℕ → List ℕ → ℕ → Answer
 checking n s r = firstOf (λ (a : Answer). a) (sheetRefusals n s r) Done
+
+-- ---- a word alone, with what its call wants and the room it is given
+
+unfoldable pub wording : ℕ → ℕ → ℕ → List ℕ → ℕ → Answer
+wording wanted top needed w room = firstOf (λ (a : Answer). a) (wordRefusals wanted top needed w room) Done
 
 -- ---- the calls with a buffer
 

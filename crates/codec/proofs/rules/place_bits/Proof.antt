@@ -11,7 +11,7 @@ use Rattle.meaning.specs.Sheet.{byte, mask}
 use Rattle.meaning.specs.Check.{odd}
 use Rattle.codec.specs.Packed.{held}
 use Rattle.meaning.specs.Answers.{isOne}
-use Rattle.codec.proofs.Register.{is-bit, bit-small, getD-map}
+use Rattle.codec.proofs.Division.{is-bit, bit-small, getD-map}
 use Rattle.codec.proofs.Placing.{Placing, starts, free-room, free-goes, frozen-goes, placed, free-bit, small}
 use borrow.Author.Needs.{needs}
 use native.Mathlib.Omega.{arith}

@@ -4,19 +4,19 @@ use native.Mathlib.Numerals.{add-one}
 use lib.ListN.{length-map, length-set}
 use lib.Seq.{take-suc, take-suc-set, take-all}
 use Rattle.bits.specs.Words.{bitAt}
-use Rattle.codec.proofs.Register.{length-toBits, bits-at}
+use Rattle.codec.proofs.Division.{length-toBits, bits-at}
 use mathlib.Core.Path.{_≡_, refl, sym, ap, _∙_}
 use mathlib.Core.List.{map}
 use Prim.Native.Nat.{ℕ, _-_, _≤_}
 use lib.ListN.{length, take}
 use Rattle.bits.specs.Vectors.{bit}
-use Rattle.codec.specs.Register.{toBits}
+use Rattle.codec.specs.Division.{toBits}
 use borrow.Author.Needs.{needs}
 use native.Mathlib.Omega.{arith}
-use Rattle.codec.proofs.check.spell.Statement.{statement}
-use Rattle.codec.proofs.check.spell.Tie as tie
-use Rattle.codec.proofs.check.spell.Reads as reads
-use Rattle.codec.proofs.check.spell.Lts as lts
+use Rattle.codec.proofs.register.spell.Statement.{statement}
+use Rattle.codec.proofs.register.spell.Tie as tie
+use Rattle.codec.proofs.register.spell.Reads as reads
+use Rattle.codec.proofs.register.spell.Lts as lts
 
 abbrev Inv-loop : tie.InvT-loop
 Inv-loop s out₀ r i₀ out i = (i ≤ r) × (r ≡ length out₀) × (length out ≡ r) × (take i out ≡ take i (map bit (toBits r s)))

@@ -6,15 +6,15 @@ use mathlib.Core.List.{map}
 use Prim.Native.Nat.{ℕ, _-_, _^_, _≤_}
 use lib.ListN.{length, take}
 use Rattle.meaning.specs.Answers.{isOne}
-use Rattle.codec.specs.Register.{polyWord, Fed}
-use Rattle.codec.proofs.Register.{divisor, length-small, starts, feed-over, feed-under}
+use Rattle.codec.specs.Division.{polyWord, Fed}
+use Rattle.codec.proofs.Division.{divisor, length-small, starts, feed-over, feed-under}
 use borrow.Author.Needs.{needs}
 use native.Mathlib.Omega.{arith}
-use Rattle.codec.proofs.check.feed.Statement.{statement}
-use Rattle.codec.proofs.check.feed.Tie as tie
-use Rattle.codec.proofs.check.feed.Reads as reads
-use Rattle.codec.proofs.check.feed.Lts as lts
-use Rattle.codec.proofs.check.polynomial.Reads as polynomial-reads
+use Rattle.codec.proofs.register.feed.Statement.{statement}
+use Rattle.codec.proofs.register.feed.Tie as tie
+use Rattle.codec.proofs.register.feed.Reads as reads
+use Rattle.codec.proofs.register.feed.Lts as lts
+use Rattle.codec.proofs.register.polynomial.Reads as polynomial-reads
 
 abbrev Inv-loop : tie.InvT-loop
 Inv-loop bits r p limit s₀ i₀ s i = (i ≤ length bits) × (p ≡ polyWord r) × (limit ≡ 2 ^ r) × Fed r (map isOne (take i bits)) s

@@ -23,9 +23,10 @@ use Rattle.bits.proofs.Xor.{none, ⊞-none}
 use Rattle.bits.proofs.Words.{bit-xor}
 use Rattle.meaning.specs.Limits.{leads}
 use Rattle.meaning.specs.Check.{poly, shift, rest, divides}
+use Rattle.meaning.specs.Payload.{remainder}
 use Rattle.meaning.specs.Answers.{isOne}
 use Rattle.meaning.proofs.Remainder.{rest-append, length-poly, scale-none}
-use Rattle.codec.specs.Register.{toBits, polyWord, AreBits, Fed}
+use Rattle.codec.specs.Division.{toBits, polyWord, AreBits, Fed}
 
 -- ---- a word as its bits
 
@@ -193,6 +194,38 @@ module _ (l : List ℕ) (i : ℕ) (a : AreBits l) (h : i < length l) where
         let low : s * 2 + bit b < 2 ^ r = rw (← is-bit) k in
         rw taken (subst (λ (x : ℕ). Fed r (map isOne (take i l) ++ (b ∷ [])) (s * 2 + x)) (sym is-bit) (more r (map isOne (take i l)) s (s * 2 + bit b) b f low (step-under r s b d (f .small) low)))
 
+-- zeros shifted in
+snoc-false : (i : ℕ) → replicate (i + 1) false ≡ replicate i false ++ (false ∷ [])
+snoc-false i = rw (add-one i) (go i)
+  where
+    go : (i : ℕ) → replicate (suc i) false ≡ replicate i false ++ (false ∷ [])
+    go zero = refl
+    go (suc i) = ap {B = List Bool} (λ l. false ∷ l) (go i)
+
+-- every sequence with remainder `start` has, with i zeros more, remainder s
+abbrev pub Flushed : ℕ → ℕ → ℕ → ℕ → Type 0
+Flushed r start i s = (v : List Bool) → Fed r v start → Fed r (v ++ replicate i false) s
+
+pub flush-none : (r start : ℕ) → Flushed r start 0 start
+flush-none r start v f = subst (λ (w : List Bool). Fed r w start) (sym (append-nil v)) f
+
+module _ (r start i s : ℕ) (d : Divisor r) (h : s < 2 ^ r) (f : Flushed r start i s) where
+  put-false : (t : ℕ) → t < 2 ^ r → toBits r t ≡ shift (poly r) (toBits r s) false → Flushed r start (i + 1) t
+  put-false t l e v q =
+      let m = more r (v ++ replicate i false) s t false (f v q) l e in
+      subst (λ (w : List Bool). Fed r w t) (append-assoc v (replicate i false) (false ∷ []) ∙ ap (λ (w : List Bool). v ++ w) (sym (snoc-false i))) m
+
+  even : s * 2 + 0 ≡ s * 2
+  even = omega arith
+
+  pub flush-over : 2 ^ r ≤ s * 2 → (bitXor (s * 2) (polyWord r) < 2 ^ r) × Flushed r start (i + 1) (bitXor (s * 2) (polyWord r))
+  flush-over k =
+      let (low, e) = rw even at (step-over r s false d h (rw even k)) in
+      (low, put-false (bitXor (s * 2) (polyWord r)) low e)
+
+  pub flush-under : s * 2 < 2 ^ r → Flushed r start (i + 1) (s * 2)
+  flush-under k = put-false (s * 2) k (rw even at (step-under r s false d h (rw even k)))
+
 -- place i of a word's bits, highest first
 pub bits-at : (r s i : ℕ) → i < r → getD (map bit (toBits r s)) i 0 ≡ bitAt s (r - 1 - i)
 unfolding toBits
@@ -204,3 +237,10 @@ bits-at (suc r) s zero h = bit-one (bitAt s r) (mod-lt (s / 2 ^ r) (omega arith)
     bit-one (suc zero) q = refl
     bit-one (suc (suc x)) q = absurd (omega arith)
 bits-at (suc r) s (suc i) h = bits-at r s i (omega arith) ∙ ap (bitAt s) (omega arith)
+
+-- the remainder of a payload after shifting by r
+pub remainder-is : (r : ℕ) (p : List Bool) (s : ℕ) → Fed r (p ++ replicate r false) s → toBits r s ≡ remainder (poly r) (leads r ++ p)
+unfolding remainder
+remainder-is r p s f =
+    f .is ∙ ap (rest (poly r) (replicate r false)) (sym (append-assoc (leads r) p (replicate r false)))
+    ∙ ap (λ (k : ℕ). rest (poly r) (replicate k false) ((leads r ++ p) ++ replicate k false)) (sym (length-poly r))

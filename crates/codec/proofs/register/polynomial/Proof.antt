@@ -1,11 +1,11 @@
-use Rattle.codec.specs.Register.{polyWord}
+use Rattle.codec.specs.Division.{polyWord}
 use borrow.Author.Tests.{ne-eqb}
 use borrow.Author.Needs.{needs}
 use native.Mathlib.Omega.{arith}
-use Rattle.codec.proofs.check.polynomial.Statement.{statement}
-use Rattle.codec.proofs.check.polynomial.Tie as tie
-use Rattle.codec.proofs.check.polynomial.Reads as reads
-use Rattle.codec.proofs.check.polynomial.Lts as lts
+use Rattle.codec.proofs.register.polynomial.Statement.{statement}
+use Rattle.codec.proofs.register.polynomial.Tie as tie
+use Rattle.codec.proofs.register.polynomial.Reads as reads
+use Rattle.codec.proofs.register.polynomial.Lts as lts
 
 -- src/check.rt:12:1
 returns : tie.Need-returns
