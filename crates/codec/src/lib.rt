@@ -3,10 +3,10 @@
 ghost use mathlib.Core.Path.{_≡_};
 ghost use mathlib.Core.Logic.{_⊎_};
 ghost use mathlib.Core.List.{map, _++_};
-ghost use Prim.Native.Nat.{_+_, _^_};
+ghost use Prim.Native.Nat.{_+_, _^_, _≤_};
 ghost use lib.ListN.{length};
 ghost use Rattle.bits.specs.Vectors.{bit};
-ghost use Rattle.meaning.specs.Limits.{leads};
+ghost use Rattle.meaning.specs.Limits.{largestN, leads};
 ghost use Rattle.meaning.specs.Transform.{polar};
 ghost use Rattle.meaning.specs.Sheet.{rules};
 ghost use Rattle.meaning.specs.Check.{poly};
@@ -78,21 +78,26 @@ fn with_check(payload: &[u8], r: usize, free: &mut [u8])
     register::spell(s, &mut free[k..]);
 }
 
-// Writes the codeword of a payload into a block of N symbols; the sheet and the payload are not refused.
-fn send(n: usize, sheet: &[u8], r: usize, payload: &[u8], k: usize, x: &mut [u8])
-    requires { ⌜ Ready n (now sheet) r (now payload) k × (length (now x) ≡ 2 ^ n) ⌝ }
+// Writes the codeword of a payload into a block of N symbols. The sheet and the payload are not refused, and `free` has K places.
+fn send(n: usize, sheet: &[u8], r: usize, payload: &[u8], free: &mut [u8], x: &mut [u8])
+    requires { ⌜ Ready n (now sheet) r (now payload) (length (now free)) × (length (now x) ≡ 2 ^ n) ⌝ }
     ensures { λ _. ⌜ now (x .exit) ≡ map bit (polar n (encoded (rules n (now (sheet .entry))) r (map isOne (now (payload .entry))))) ⌝ }
 {
-    let mut free = [0u8; 128];
-    with_check(payload, r, &mut free[0..k]);
-    rules::place_bits(sheet, &free[0..k], x);
+    with_check(payload, r, free);
+    rules::place_bits(sheet, free, x);
     transform::transform(x, n);
 }
 
-// Writes the codeword of a payload: K - r bytes of 0 or 1, K the number of free positions of the sheet.
-// Answers Done and writes N symbols, later bytes as found; or refuses by 11 to 16 (check_sheet; 14: the payload is not K - r
-// long; 15: the first payload bit above 1; 16: the output is shorter than N) and leaves the output as found.
-pub fn encode(n: usize, sheet: &[u8], r: usize, payload: &[u8], out: &mut [u8]) -> Answer
+// `encode`, with room for the free bits.
+fn encode_in(
+    n: usize,
+    sheet: &[u8],
+    r: usize,
+    payload: &[u8],
+    free: &mut [u8],
+    out: &mut [u8],
+) -> Answer
+    requires { ⌜ 2 ^ largestN ≤ length (now free) ⌝ }
     ensures { λ a. ⌜ leaving (now (out .exit)) a ≡ encoding n (now (sheet .entry)) r (now (payload .entry)) (now (out .entry)) ⌝ }
 {
     let a = check_sheet(n, sheet, r);
@@ -105,6 +110,16 @@ pub fn encode(n: usize, sheet: &[u8], r: usize, payload: &[u8], out: &mut [u8]) 
     let Answer::Done = b else {
         return b;
     };
-    send(n, sheet, r, payload, k, &mut out[0..size]);
+    send(n, sheet, r, payload, &mut free[0..k], &mut out[0..size]);
     Answer::Done
+}
+
+// Writes the codeword of a payload: K - r bytes of 0 or 1, K the number of free positions of the sheet.
+// Answers Done and writes N symbols, later bytes as found; or refuses by 11 to 16 (check_sheet; 14: the payload is not K - r
+// long; 15: the first payload bit above 1; 16: the output is shorter than N) and leaves the output as found.
+pub fn encode(n: usize, sheet: &[u8], r: usize, payload: &[u8], out: &mut [u8]) -> Answer
+    ensures { λ a. ⌜ leaving (now (out .exit)) a ≡ encoding n (now (sheet .entry)) r (now (payload .entry)) (now (out .entry)) ⌝ }
+{
+    let mut free = [0u8; 128];
+    encode_in(n, sheet, r, payload, &mut free, out)
 }

@@ -1,3 +1,5 @@
+use mathlib.Core.Path.{_∙_}
+use Rattle.codec.proofs.Sending.{place-ready, sent}
 use borrow.Author.Needs.{needs}
 use native.Mathlib.Omega.{arith}
 use borrow.Author.Needs.{needs}
@@ -9,62 +11,46 @@ use Rattle.codec.proofs.rules.place_bits.Reads as place-bits-reads
 use Rattle.codec.proofs.transform.transform.Reads as transform-reads
 use Rattle.codec.proofs.with_check.Reads as with-check-reads
 
--- src/lib.rt:87:28
-sub-with-check : tie.Need-sub-with-check
-sub-with-check c = search needs
-
--- src/lib.rt:87:28
-part-free-start : tie.Need-part-free-start
-part-free-start c = search needs
-
--- src/lib.rt:87:28
-part-free-end : tie.Need-part-free-end
-part-free-end c = ?partfreeend
+-- src/lib.rt:86:5
+with-check-requires : tie.Need-with-check-requires
+with-check-requires c κs = let start = c .before .before .before .before .before in (start .pre .0 .check, (start .pre .0 .bits, start .pre .0 .sum))
 
 -- src/lib.rt:87:5
-with-check-requires : tie.Need-with-check-requires
-with-check-requires c κs = ?withcheckrequires
-
--- src/lib.rt:88:30
-sub-place-bits : tie.Need-sub-place-bits
-sub-place-bits c = search needs
-
--- src/lib.rt:88:30
-part-place-bits-start : tie.Need-part-place-bits-start
-part-place-bits-start c = search needs
-
--- src/lib.rt:88:30
-part-place-bits-end : tie.Need-part-place-bits-end
-part-place-bits-end c = ?partplacebitsend
+place-bits-requires : tie.Need-place-bits-requires
+place-bits-requires c κs =
+    let check = c .before .before .before .before in
+    let start = check .before .before .before .before .before .before in
+    place-ready _ _ _ _ _ (start .pre .0) (start .args .x .now) (check .with-check .last .1 .1 .0) (start .pre .1) (check .with-check .kept .1 .1 .0) (check .with-check .ensures)
 
 -- src/lib.rt:88:5
-place-bits-requires : tie.Need-place-bits-requires
-place-bits-requires c κs = ?placebitsrequires
-
--- src/lib.rt:89:5
 transform-requires : tie.Need-transform-requires
-transform-requires c κs = ?transformrequires
+transform-requires c κs = let place = c .before .before .before in place .place-bits .kept .1 .1 .0 ∙ place .before .before .before .before .before .before .before .before .before .before .before .pre .1
 
 -- src/lib.rt:82:1
 same-length : tie.Need-same-length
 same-length c = search needs
 
 -- src/lib.rt:82:1
+same-length-2 : tie.Need-same-length-2
+same-length-2 c = search needs
+
+-- src/lib.rt:82:1
 returns : tie.Need-returns
-returns c = ?returns
+returns c =
+    let turn = c .before .before in
+    let place = turn .before .before .before .before in
+    let check = place .before .before .before .before .before in
+    let start = check .before .before .before .before .before .before in
+    sent _ _ _ _ _ (start .pre .0) (start .args .x .now) (check .with-check .last .1 .1 .0) (start .pre .1) (check .with-check .kept .1 .1 .0) (check .with-check .ensures)
+    (place .place-bits .last .1 .1 .0) (turn .transform .last .0) (place .place-bits .ensures) (turn .transform .ensures)
 
 pub send-spec : {M : Type 1} → statement M
 send-spec =
     tie.close
     (tie.spec
-    sub-with-check
-    part-free-start
-    part-free-end
     with-check-requires
-    sub-place-bits
-    part-place-bits-start
-    part-place-bits-end
     place-bits-requires
     transform-requires
     same-length
+    same-length-2
     returns)
