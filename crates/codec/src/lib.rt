@@ -101,15 +101,15 @@ fn encode_in(
     ensures { λ a. ⌜ leaving (now (out .exit)) a ≡ encoding n (now (sheet .entry)) r (now (payload .entry)) (now (out .entry)) ⌝ }
 {
     let a = check_sheet(n, sheet, r);
-    let Answer::Done = a else {
+    if !meaning::is_done(a) {
         return a;
-    };
+    }
     let size = sheet::size_of(n);
     let k = sheet::frees(sheet, size);
     let b = check_word(payload, k - r, 1, out.len(), size);
-    let Answer::Done = b else {
+    if !meaning::is_done(b) {
         return b;
-    };
+    }
     send(n, sheet, r, payload, &mut free[0..k], &mut out[0..size]);
     Answer::Done
 }

@@ -1,7 +1,7 @@
 -- What is known where a table's rows do not apply.
 --     Good, good           a sheet that no refusal from 11 to 13 meets
 --     Worded, worded       a word, and room for the answer, that no refusal from 14 to 16 meets
---     done-good            the same of a sheet that checking calls done
+--     checked-none, worded-none     none applies where checking answers done
 --     bits-back            symbols up to 1 are bits
 use mathlib.Core.Path.{_≡_, refl, sym, ap, _∙_}
 use mathlib.Core.Logic.{_⊎_, inl, inr}
@@ -9,16 +9,15 @@ use Prim.Native.Nat.{ℕ, zero, suc, _*_, _^_, _≤_}
 use native.Mathlib.Omega.{arith}
 use mathlib.Core.Bool.{Bool, true, false, _&&_, _||_, not, true≢false}
 use mathlib.Core.List.{List, [], _∷_, map}
-use lib.ListN.{length, getD}
+use lib.ListN.{length}
 use lib.Dec.{eqb, leb, ltb}
 use borrow.Author.Tests.{ltb-false, leb-false, eqb-true, not-false, lt-ltb, le-ltb}
 use Rattle.bits.specs.Vectors.{bit, pick, firstPlace}
 use Rattle.bits.proofs.Tests.{or-false-l, or-false-r}
 use Rattle.meaning.specs.Limits.{largestN, recordBytes}
 use Rattle.meaning.specs.Sheet.{rules, badRecord, frees, early}
-use Rattle.meaning.specs.Answers.{refuses, badShape, badCheck, sheetRefusals, wordRefusals, checking, isOne, numbersOf}
-use Rattle.meaning.specs.declared.Answer.{Answer}
-use Rattle.meaning.specs.declared.Answer.the-variants.{Done, BadShape, BadRecord, BadCheck}
+use Rattle.meaning.specs.Answers.{refuses, badShape, badCheck, sheetRefusals, wordRefusals, checking, wording, isOne, isDone}
+use Rattle.meaning.proofs.Refusals.{tried-done}
 use Rattle.meaning.proofs.Sound.{rules-early}
 
 -- ---- the sheet
@@ -66,22 +65,10 @@ good n s r h =
       roomy = check-room r (frees (rules n s)) check;
     }
 
--- checking answers done exactly when no row applies
-pub done-none : (n : ℕ) (s : List ℕ) (r : ℕ) → Done ≡ checking n s r → refuses (sheetRefusals n s r) ≡ false
+-- a sheet that checking calls done
+pub checked-none : (n : ℕ) (s : List ℕ) (r : ℕ) → isDone (checking n s r) ≡ true → refuses (sheetRefusals n s r) ≡ false
 unfolding checking sheetRefusals
-done-none n s r e = go (badShape n s) (ltb (badRecord n s) (2 ^ n)) (badCheck r (frees (rules n s))) (ap code e)
-  where
-    code : Answer → ℕ
-    code a = getD (numbersOf a) 0 0
-
-    go : (a b c : Bool) → 0 ≡ code (pick a BadShape (pick b (BadRecord (badRecord n s)) (pick c BadCheck Done))) → a || (b || (c || false)) ≡ false
-    go true b c q = absurd (omega arith)
-    go false true c q = absurd (omega arith)
-    go false false true q = absurd (omega arith)
-    go false false false q = refl
-
-pub done-good : (n : ℕ) (s : List ℕ) (r : ℕ) → Done ≡ checking n s r → Good n s r
-done-good n s r e = good n s r (done-none n s r e)
+checked-none n s r d = tried-done (sheetRefusals n s r) refl d
 
 -- ---- a word
 
@@ -99,6 +86,11 @@ worded wanted top needed w room h =
       symbols = or-false-l (ltb (firstPlace (ltb top) w) (length w)) _ rest;
       roomy = ltb-false room needed (or-false-l (ltb room needed) _ (or-false-r (ltb (firstPlace (ltb top) w) (length w)) _ rest));
     }
+
+-- a word that checking it calls done
+pub worded-none : (wanted top needed : ℕ) (w : List ℕ) (room : ℕ) → isDone (wording wanted top needed w room) ≡ true → refuses (wordRefusals wanted top needed w room) ≡ false
+unfolding wording wordRefusals
+worded-none wanted top needed w room d = tried-done (wordRefusals wanted top needed w room) refl d
 
 later : (w : List ℕ) → ltb (suc (firstPlace (ltb 1) w)) (suc (length w)) ≡ false → ltb (firstPlace (ltb 1) w) (length w) ≡ false
 later w h = le-ltb (firstPlace (ltb 1) w) (length w) (omega (arith, ltb-false (suc (firstPlace (ltb 1) w)) (suc (length w)) h))

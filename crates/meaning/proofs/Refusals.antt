@@ -1,13 +1,15 @@
 -- Tables of refusals: the first row that applies is given.
 --     first-none       where no row applies, the verdict is given
 --     first-append     a table may be tried in two parts
-use mathlib.Core.Path.{_≡_, refl}
-use mathlib.Core.Bool.{Bool, true, false, _||_, true≢false}
-use mathlib.Core.List.{List, [], _∷_, _++_}
-use Rattle.bits.specs.Vectors.{pick}
-use Rattle.bits.proofs.Tests.{or-false-l, or-false-r}
-use Rattle.meaning.specs.Answers.{Refusal, firstOf, refuses}
+--     tried-done, tried-refused     a table tried by itself, before more rows
+use mathlib.Core.Path.{_≡_, refl, sym, ap, _∙_}
+use mathlib.Core.Bool.{Bool, true, false, _&&_, _||_, not, false≢true, true≢false}
+use mathlib.Core.List.{List, [], _∷_, _++_, append-nil}
+use Rattle.bits.specs.Vectors.{pick, all}
+use Rattle.bits.proofs.Tests.{or-false-l, or-false-r, and-r}
+use Rattle.meaning.specs.Answers.{isDone, Refusal, firstOf, refuses}
 use Rattle.meaning.specs.declared.Answer.{Answer}
+use Rattle.meaning.specs.declared.Answer.the-variants.{Done}
 
 module _ {A : Type 0} (f : Answer → A) where
   pub first-append : (a b : List Refusal) (z : A) → firstOf f (a ++ b) z ≡ firstOf f a (firstOf f b z)
@@ -34,3 +36,38 @@ none-append (t ∷ a) b h = go (t .applies) h (none-append a b)
 pub both-none : (a b : List Refusal) → refuses a ≡ false → refuses b ≡ false → refuses (a ++ b) ≡ false
 both-none [] b p q = q
 both-none (t ∷ a) b p q = rw (or-false-l (t .applies) _ p) (both-none a b (or-false-r (t .applies) _ p) q)
+
+-- ---- a table tried by itself, before more rows
+
+-- the table's own answer, Done where no row applies
+abbrev pub tried : List Refusal → Answer
+tried ts = firstOf (λ (a : Answer). a) ts Done
+
+-- no row answers Done
+abbrev pub Telling : List Refusal → Bool
+Telling ts = all (λ (t : Refusal). not (isDone (t .answer))) ts
+
+pub tried-done : (ts : List Refusal) → Telling ts ≡ true → isDone (tried ts) ≡ true → refuses ts ≡ false
+tried-done [] h d = refl
+tried-done (t ∷ ts) h d = go (t .applies) (isDone (t .answer)) refl h d (tried-done ts)
+  where
+    go : (b c : Bool) → isDone (t .answer) ≡ c → not c && Telling ts ≡ true → isDone (pick b (t .answer) (tried ts)) ≡ true → (Telling ts ≡ true → isDone (tried ts) ≡ true → refuses ts ≡ false) → b || refuses ts ≡ false
+    go true true e k q f = absurd (false≢true k)
+    go true false e k q f = absurd (false≢true (sym e ∙ q))
+    go false c e k q f = f (and-r (not c) _ k) q
+
+-- an answer that is not Done is that of the first part, whatever follows
+pub tried-refused : {A : Type 0} (f : Answer → A) (ts us : List Refusal) (z : A) → isDone (tried ts) ≡ false → firstOf f (ts ++ us) z ≡ f (tried ts)
+tried-refused f [] us z h = absurd (true≢false h)
+tried-refused f (t ∷ ts) us z h = go (t .applies) h (tried-refused f ts us z)
+  where
+    go : (b : Bool) → isDone (pick b (t .answer) (tried ts)) ≡ false → (isDone (tried ts) ≡ false → firstOf f (ts ++ us) z ≡ f (tried ts)) → pick b (f (t .answer)) (firstOf f (ts ++ us) z) ≡ f (pick b (t .answer) (tried ts))
+    go true k g = refl
+    go false k g = g k
+
+-- past a first part that refuses nothing
+pub past-none : {A : Type 0} (f : Answer → A) (ts us : List Refusal) (z : A) → refuses ts ≡ false → firstOf f (ts ++ us) z ≡ firstOf f us z
+past-none f ts us z h = first-append f ts us z ∙ first-none f ts (firstOf f us z) h
+
+pub tried-all : {A : Type 0} (f : Answer → A) (ts : List Refusal) (z : A) → isDone (tried ts) ≡ false → firstOf f ts z ≡ f (tried ts)
+tried-all f ts z h = ap (λ (l : List Refusal). firstOf f l z) (sym (append-nil ts)) ∙ tried-refused f ts [] z h

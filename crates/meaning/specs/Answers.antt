@@ -1,5 +1,5 @@
 -- The answers: their five numbers, the table of refusals of each call, and what each call answers and leaves in its buffer.
---     numbersOf a          code, place, g, m, d
+--     numbersOf a          code, place, g, m, d; isDone a, whether it is Done
 --     Refusal, firstOf     a row of a table of refusals; the first that applies is given
 --     refuses              whether a row applies
 --     Reply                an answer, and the bytes of the output buffer after the call
@@ -8,7 +8,7 @@
 --     encoding, readingBack, decoding      the calls with a buffer
 -- `s` is the sheet, `w` the word, `p` the payload, `c` the ceiling, `out` the buffer as found.
 use Prim.Native.Nat.{ℕ, _*_, _-_, _^_}
-use mathlib.Core.Bool.{Bool, _&&_, _||_, not}
+use mathlib.Core.Bool.{Bool, true, false, _&&_, _||_, not}
 use mathlib.Core.List.{List, [], _∷_, _++_, map}
 use lib.ListN.{length, drop}
 use lib.Dec.{eqb, leb, ltb}
@@ -37,6 +37,21 @@ numbersOf (BadSymbol i) = 15 ∷ i ∷ 0 ∷ 0 ∷ 0 ∷ []
 numbersOf ShortOutput = 16 ∷ 0 ∷ 0 ∷ 0 ∷ 0 ∷ []
 numbersOf BadCeiling = 17 ∷ 0 ∷ 0 ∷ 0 ∷ 0 ∷ []
 numbersOf (TooMany g) = 18 ∷ 0 ∷ g ∷ 0 ∷ 0 ∷ []
+
+-- whether a call can go on
+abbrev pub isDone : Answer → Bool
+isDone Done = true
+isDone (Unique g m) = false
+isDone (Ambiguous g m d) = false
+isDone (Inconsistent g m) = false
+isDone BadShape = false
+isDone (BadRecord i) = false
+isDone BadCheck = false
+isDone BadLength = false
+isDone (BadSymbol i) = false
+isDone ShortOutput = false
+isDone BadCeiling = false
+isDone (TooMany g) = false
 
 -- ---- refusals
 

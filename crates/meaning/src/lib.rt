@@ -1,6 +1,6 @@
 // What the vault's calls answer, and the numbers of 01-scope.md that each answer stands for.
 ghost use mathlib.Core.Path.{_≡_};
-ghost use Rattle.meaning.specs.Answers.{numbersOf};
+ghost use Rattle.meaning.specs.Answers.{numbersOf, isDone};
 
 // An answer: one case for each row of 01's table, and `Done`, the 0 of the calls that have no verdict.
 pub enum Answer {
@@ -47,5 +47,25 @@ pub fn numbers(a: Answer) -> [usize; 5]
         Answer::ShortOutput => [16, 0, 0, 0, 0],
         Answer::BadCeiling => [17, 0, 0, 0, 0],
         Answer::TooMany { g } => [18, 0, g, 0, 0],
+    }
+}
+
+// Whether an answer is Done, so that a call can go on.
+pub fn is_done(a: Answer) -> bool
+    ensures { λ r. ⌜ r ≡ isDone a ⌝ }
+{
+    match a {
+        Answer::Done => true,
+        Answer::Unique { g: _, m: _ } => false,
+        Answer::Ambiguous { g: _, m: _, d: _ } => false,
+        Answer::Inconsistent { g: _, m: _ } => false,
+        Answer::BadShape => false,
+        Answer::BadRecord { place: _ } => false,
+        Answer::BadCheck => false,
+        Answer::BadLength => false,
+        Answer::BadSymbol { place: _ } => false,
+        Answer::ShortOutput => false,
+        Answer::BadCeiling => false,
+        Answer::TooMany { g: _ } => false,
     }
 }

@@ -10,13 +10,15 @@ use Rattle.codec.proofs.check_word.Reads as check-word-reads
 use Rattle.codec.proofs.send.Reads as send-reads
 use Rattle.codec.proofs.sheet.frees.Reads as frees-reads
 use Rattle.codec.proofs.sheet.size_of.Reads as size-of-reads
+use Rattle.meaning.proofs.is_done.Reads as is-done-reads
 
 -- src/lib.rt:103:9
 check-sheet-requires : tie.Need-check-sheet-requires
 check-sheet-requires c κs = search needs
 
-enum-told : tie.Need-enum-told
-enum-told c = search needs
+-- src/lib.rt:104:9
+is-done-requires : tie.Need-is-done-requires
+is-done-requires c κs = search needs
 
 -- src/lib.rt:105:9
 returns : tie.Need-returns
@@ -38,8 +40,9 @@ sub-check-word c = search needs
 check-word-requires : tie.Need-check-word-requires
 check-word-requires c κs = search needs
 
-enum-told-2 : tie.Need-enum-told-2
-enum-told-2 c = search needs
+-- src/lib.rt:110:9
+is-done-requires-2 : tie.Need-is-done-requires-2
+is-done-requires-2 c κs = search needs
 
 -- src/lib.rt:111:9
 returns-2 : tie.Need-returns-2
@@ -90,13 +93,13 @@ encode-in-spec =
     tie.close
     (tie.spec
     check-sheet-requires
-    enum-told
+    is-done-requires
     returns
     size-of-requires
     frees-requires
     sub-check-word
     check-word-requires
-    enum-told-2
+    is-done-requires-2
     returns-2
     sub-send
     part-send-start
