@@ -4,20 +4,27 @@ use mathlib.Core.Path.{_≡_, refl, sym, ap, ap₂, _∙_, subst}
 use Prim.Native.Nat.{ℕ, _+_, _-_, _*_, _^_, _<_, _≤_}
 use native.Mathlib.Omega.{arith}
 use mathlib.Core.Bool.{Bool, true, false}
-use mathlib.Core.List.{List, [], _++_, map}
+use mathlib.Core.List.{List, [], _∷_, _++_, map}
 use lib.ListN.{length, take, drop, length-map, length-take}
+use lib.Pow.{pow-mono}
 use Rattle.bits.specs.Vectors.{bit, tab}
 use Rattle.meaning.specs.Limits.{largestN, recordBytes}
 use Rattle.meaning.specs.Transform.{polar}
-use Rattle.meaning.specs.Sheet.{ruleAt, rules, frees}
+use Rattle.meaning.specs.Sheet.{Rule, free, frozen, ruleAt, rules, frees}
 use Rattle.meaning.specs.Payload.{encoded}
 use Rattle.meaning.specs.Answers.{isDone, isOne, checking, wording, sheetRefusals, wordRefusals, encodeRefusals, Reply, leaving, encoding, refuses}
 use Rattle.meaning.specs.declared.Answer.{Answer}
 use Rattle.meaning.specs.declared.Answer.the-variants.{Done}
+use Rattle.bits.proofs.Tests.{length-tab}
 use Rattle.meaning.proofs.Refusals.{tried-refused, tried-all, past-none, both-none}
 use Rattle.meaning.proofs.Forms.{Good, good, checked-none, Worded, worded, worded-none, bits-back}
 use Rattle.meaning.proofs.ReadBack.{encode-is}
 use Rattle.codec.specs.Ready.{Ready}
+
+frees-le : (ks : List Rule) → frees ks ≤ length ks
+frees-le [] = omega arith
+frees-le (free ∷ ks) = omega (arith, frees-le ks)
+frees-le (frozen c m ∷ ks) = omega (arith, frees-le ks)
 
 -- ---- a sheet that is not refused, and N and K as the code has them
 
@@ -27,6 +34,15 @@ module _ (n : ℕ) (s : List ℕ) (r : ℕ) (a : Answer) (ea : a ≡ checking n 
 
   pub sheet-good : b ≡ true → Good n s r
   sheet-good t = good n s r (sheet-none t)
+
+  -- K is at least r, and no more than the most positions
+  module _ (t : b ≡ true) (size k : ℕ) (es : size ≡ 2 ^ n) (ek : k ≡ frees (tab size (ruleAt s))) where
+    pub frees-small : r ≤ k
+    unfolding rules
+    frees-small = omega (arith, (sheet-good t) .roomy, ek ∙ ap (λ (m : ℕ). frees (tab m (ruleAt s))) es)
+
+    pub frees-fit : k ≤ 2 ^ largestN
+    frees-fit = omega (arith, ek, frees-le (tab size (ruleAt s)), length-tab size (ruleAt s), es, pow-mono ((sheet-good t) .small))
 
   not-done : b ≡ false → isDone (checking n s r) ≡ false
   not-done t = ap isDone (sym ea) ∙ sym eb ∙ t
@@ -55,15 +71,15 @@ module _ (n : ℕ) (s : List ℕ) (r : ℕ) (a : Answer) (ea : a ≡ checking n 
       word-ok : d ≡ true → refuses (wordRefusals (frees (rules n s) - r) 1 (2 ^ n) p (length out)) ≡ false
       word-ok q = worded-none _ 1 _ p (length out) (ap isDone (sym told) ∙ sym ed ∙ q)
 
-      pub ready : d ≡ true → Ready n s r p k
-      ready q =
+      pub ready : d ≡ true → (m : ℕ) → m ≡ k → Ready n s r p m
+      ready q m em =
           let g = sheet-good t in
           let w = worded _ 1 _ p (length out) (word-ok q) in
-          record { small = g .small; long = g .long; check = g .check; count = kept; bits = bits-back p (w .symbols); sum = omega (arith, kept, w .long, g .roomy) }
+          record { small = g .small; long = g .long; check = g .check; count = em ∙ kept; bits = bits-back p (w .symbols); sum = omega (arith, em, kept, w .long, g .roomy) }
 
       pub roomy : d ≡ true → size ≤ length out
       roomy q = omega (arith, es, (worded _ 1 _ p (length out) (word-ok q)) .roomy)
 
-      pub encode-done : d ≡ true → (x : List ℕ) → x ≡ map bit (polar n (encoded (rules n s) r (map isOne p))) → leaving (x ++ drop (length x) out) Done ≡ encoding n s r p out
+      pub encode-done : d ≡ true → (x : List ℕ) (m : ℕ) → m ≡ length x → x ≡ map bit (polar n (encoded (rules n s) r (map isOne p))) → leaving (x ++ drop m out) Done ≡ encoding n s r p out
       unfolding encodeRefusals
-      encode-done q x ex = ap (λ (l : List ℕ). leaving (l ++ drop (length l) out) Done) ex ∙ sym (encode-is n s r p out (both-none (sheetRefusals n s r) _ (sheet-none t) (word-ok q)))
+      encode-done q x m em ex = ap (λ (j : ℕ). leaving (x ++ drop j out) Done) em ∙ ap (λ (l : List ℕ). leaving (l ++ drop (length l) out) Done) ex ∙ sym (encode-is n s r p out (both-none (sheetRefusals n s r) _ (sheet-none t) (word-ok q)))

@@ -1,3 +1,4 @@
+use Rattle.meaning.specs.Limits.{largestN}
 use borrow.Author.Needs.{needs}
 use native.Mathlib.Omega.{arith}
 use borrow.Author.Needs.{needs}
@@ -13,6 +14,7 @@ slice-aggregate-encode-in c = search needs
 
 -- src/lib.rt:124:5
 encode-in-requires : tie.Need-encode-in-requires
+unfolding largestN
 encode-in-requires c κs = search needs
 
 -- src/lib.rt:120:1
