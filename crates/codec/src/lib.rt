@@ -5,15 +5,15 @@ ghost use mathlib.Core.Logic.{_⊎_};
 ghost use mathlib.Core.List.{map, _++_};
 ghost use Prim.Native.Nat.{_+_, _^_, _≤_};
 ghost use lib.ListN.{length};
-ghost use Rattle.bits.specs.Vectors.{bit};
+ghost use Rattle.bits.specs.Vectors.{bit, tab};
 ghost use Rattle.meaning.specs.Limits.{largestN, leads};
 ghost use Rattle.meaning.specs.Transform.{polar};
-ghost use Rattle.meaning.specs.Sheet.{rules};
-ghost use Rattle.meaning.specs.Check.{poly};
+ghost use Rattle.meaning.specs.Sheet.{ruleAt, rules};
+ghost use Rattle.meaning.specs.Check.{poly, freeBits, keeps};
 ghost use Rattle.meaning.specs.Payload.{remainder, encoded};
 ghost use Rattle.codec.specs.Division.{AreBits};
-ghost use Rattle.codec.specs.Ready.{Ready};
-ghost use Rattle.meaning.specs.Answers.{checking, wording, encoding, leaving, isOne};
+ghost use Rattle.codec.specs.Ready.{Ready, Whole};
+ghost use Rattle.meaning.specs.Answers.{checking, wording, encoding, readingBack, leaving, isOne};
 
 mod register;
 mod rules;
@@ -122,4 +122,72 @@ pub fn encode(n: usize, sheet: &[u8], r: usize, payload: &[u8], out: &mut [u8]) 
 {
     let mut free = [0u8; 128];
     encode_in(n, sheet, r, payload, &mut free, out)
+}
+
+// The vector u behind a word with nothing erased: its transform.
+fn unsend(n: usize, word: &[u8], u: &mut [u8])
+    requires { ⌜ AreBits (now word) × (length (now word) ≡ 2 ^ n) × (length (now u) ≡ 2 ^ n) ⌝ }
+    ensures { λ _. ⌜ now (u .exit) ≡ map bit (polar n (map isOne (now (word .entry)))) ⌝ }
+{
+    bytes::copy(word, u);
+    transform::transform(u, n);
+}
+
+// Whether u keeps every frozen rule and the check; takes its free bits out on the way. `v` is room for a vector.
+fn lawful(sheet: &[u8], r: usize, u: &[u8], free: &mut [u8], v: &mut [u8]) -> bool
+    requires { ⌜ Whole (now sheet) r (now u) (length (now free)) (length (now v)) ⌝ }
+    ensures { λ b. ⌜ (b ≡ keeps (tab (length (now (u .entry))) (ruleAt (now (sheet .entry)))) r (map isOne (now (u .entry)))) × (now (free .exit) ≡ map bit (freeBits (tab (length (now (u .entry))) (ruleAt (now (sheet .entry)))) (map isOne (now (u .entry))))) ⌝ }
+{
+    rules::take_free(sheet, u, free);
+    rules::place_bits(sheet, free, v);
+    if !check::same(u, v) {
+        return false;
+    }
+    register::feed(free, r) == 0
+}
+
+// `read_back`, with room for two vectors and for the free bits.
+fn read_in(
+    n: usize,
+    sheet: &[u8],
+    r: usize,
+    word: &[u8],
+    u: &mut [u8],
+    free: &mut [u8],
+    v: &mut [u8],
+    out: &mut [u8],
+) -> Answer
+    requires { ⌜ (2 ^ largestN ≤ length (now u)) × (2 ^ largestN ≤ length (now free)) × (2 ^ largestN ≤ length (now v)) ⌝ }
+    ensures { λ a. ⌜ leaving (now (out .exit)) a ≡ readingBack n (now (sheet .entry)) r (now (word .entry)) (now (out .entry)) ⌝ }
+{
+    let a = check_sheet(n, sheet, r);
+    if !meaning::is_done(a) {
+        return a;
+    }
+    let size = sheet::size_of(n);
+    let k = sheet::frees(sheet, size);
+    let b = check_word(word, size, 1, out.len(), k - r);
+    if !meaning::is_done(b) {
+        return b;
+    }
+    unsend(n, word, &mut u[0..size]);
+    if !lawful(sheet, r, &u[0..size], &mut free[0..k], &mut v[0..size]) {
+        return Answer::Inconsistent { g: 0, m: 0 };
+    }
+    let m = k - r;
+    bytes::copy(&free[0..m], out);
+    Answer::Done
+}
+
+// Reads the payload back from a whole codeword: N bytes of 0 or 1.
+// Answers Done and writes the K - r payload bits, later bytes as found; Inconsistent (2) where the word is no codeword; or
+// refuses by 11 to 16 (check_sheet; 14: the word is not N long; 15: the first symbol above 1; 16: the output is shorter than
+// K - r). All but Done leave the output as found.
+pub fn read_back(n: usize, sheet: &[u8], r: usize, word: &[u8], out: &mut [u8]) -> Answer
+    ensures { λ a. ⌜ leaving (now (out .exit)) a ≡ readingBack n (now (sheet .entry)) r (now (word .entry)) (now (out .entry)) ⌝ }
+{
+    let mut u = [0u8; 128];
+    let mut free = [0u8; 128];
+    let mut v = [0u8; 128];
+    read_in(n, sheet, r, word, &mut u, &mut free, &mut v, out)
 }

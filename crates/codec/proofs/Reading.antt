@@ -1,0 +1,81 @@
+-- From a whole word to its payload, in the values that the code has.
+--     unsent              the vector behind a word
+--     again, broken, held     whether it keeps the rules: it is the vector that they give for its own free bits
+use mathlib.Core.Path.{_≡_, refl, sym, ap, ap₂, _∙_, subst}
+use Prim.Native.Nat.{ℕ, _+_, _*_, _^_, _≤_}
+use native.Mathlib.Omega.{arith}
+use mathlib.Core.Bool.{Bool, true, false, _&&_, true≢false}
+use mathlib.Core.List.{List, [], _++_, map, append-nil}
+use lib.ListN.{length, take, drop, length-map, drop-of-length-le}
+use lib.Seq.{take-all}
+use lib.Dec.{eqb}
+use Rattle.bits.specs.Vectors.{bit, tab}
+use Rattle.bits.proofs.Tests.{length-tab}
+use Rattle.meaning.specs.Limits.{recordBytes, maskBytes, leads}
+use Rattle.meaning.specs.Transform.{polar}
+use Rattle.meaning.specs.Sheet.{Rule, ruleAt, frees}
+use Rattle.meaning.specs.Check.{keepsRules, freeBits, divides, keeps}
+use Rattle.meaning.specs.Payload.{place}
+use Rattle.meaning.specs.Answers.{isOne}
+use Rattle.meaning.proofs.Encode.{length-free, keeps-place, place-unique}
+use Rattle.meaning.proofs.ReadBack.{ones-back}
+use Rattle.codec.specs.Bytes.{polarBytes}
+use Rattle.codec.specs.Division.{AreBits, Fed}
+use Rattle.codec.specs.Ready.{Whole}
+use Rattle.codec.proofs.Transforming.{polar-bytes}
+use Rattle.codec.proofs.Division.{fed-zero}
+use Rattle.codec.proofs.Sending.{bits-are}
+
+-- ---- the vector behind a word
+
+pub unsent : (n : ℕ) (w u l z : List ℕ) → AreBits w → length w ≡ 2 ^ n → length u ≡ 2 ^ n → l ≡ take (length w) w ++ drop (length w) u → z ≡ polarBytes n l → z ≡ map bit (polar n (map isOne w))
+unsent n w u l z a lw lu el ez =
+    let e : l ≡ w = el ∙ ap₂ {C = List ℕ} _++_ (take-all (length w) w (omega arith)) (drop-of-length-le u {i = length w} (omega arith)) ∙ append-nil w in
+    ez ∙ ap (polarBytes n) (e ∙ sym a) ∙ polar-bytes n (map isOne w) (length-map w isOne ∙ lw)
+
+-- ---- whether it keeps the rules
+
+module _ (s : List ℕ) (r : ℕ) (u : List ℕ) (k m : ℕ) (ok : Whole s r u k m) where
+  abbrev ks : List Rule
+  ks = tab (length u) (ruleAt s)
+
+  abbrev us : List Bool
+  us = map isOne u
+
+  length-us : length us ≡ length ks
+  length-us = length-map u isOne ∙ sym (length-tab (length u) (ruleAt s))
+
+  module _ (f : List ℕ) (ef : f ≡ map bit (freeBits ks us)) where
+    frees-back : map isOne f ≡ freeBits ks us
+    frees-back = ap (map isOne) ef ∙ ones-back (freeBits ks us)
+
+    pub free-bits : AreBits f
+    free-bits = subst (λ (l : List ℕ). AreBits l) (sym ef) (bits-are (freeBits ks us))
+
+    -- the free bits give the vector again
+    pub place-again : (v : List ℕ) → length v ≡ m → ((length s ≡ length v * recordBytes) × (length v ≤ 8 * maskBytes)) × (AreBits f × (length f ≡ frees (tab (length v) (ruleAt s))))
+    place-again v lv =
+        let e : length v ≡ length u = lv ∙ ok .room in
+        ((ok .long ∙ ap (λ (j : ℕ). j * recordBytes) (sym e), omega (arith, ok .within)),
+        (free-bits, ap length ef ∙ length-map (freeBits ks us) bit ∙ length-free ks us length-us ∙ ap (λ (j : ℕ). frees (tab j (ruleAt s))) (sym e)))
+
+    module _ (v y : List ℕ) (lv : length v ≡ m) (ey : y ≡ map bit (place (tab (length v) (ruleAt s)) [] (map isOne f))) where
+      again : y ≡ map bit (place ks [] (freeBits ks us))
+      again = ey ∙ ap₂ (λ (j : ℕ) (b : List Bool). map bit (place (tab j (ruleAt s)) [] b)) (lv ∙ ok .room) frees-back
+
+      -- another vector: a rule is broken
+      pub broken : (b : Bool) → (u ≡ y → b ≡ true) → b ≡ false → false ≡ keeps ks r us
+      unfolding keeps
+      broken b h e = go (keepsRules ks us us) refl
+        where
+          go : (t : Bool) → keepsRules ks us us ≡ t → false ≡ t && divides r (leads r ++ freeBits ks us)
+          go true q = absurd (true≢false (sym (h (sym (ok .bits) ∙ ap (map bit) (place-unique ks [] us (ok .ordered) length-us q) ∙ sym again)) ∙ e))
+          go false q = refl
+
+      -- the same vector: every rule is kept, and the check decides
+      pub held : (w : ℕ) → u ≡ y → Fed r (map isOne f) w → eqb w 0 ≡ keeps ks r us
+      unfolding keeps
+      held w h d =
+          let same : us ≡ place ks [] (freeBits ks us) = ap (map isOne) (h ∙ again) ∙ ones-back (place ks [] (freeBits ks us)) in
+          let kept : keepsRules ks us us ≡ true = subst (λ (x : List Bool). keepsRules ks x x ≡ true) (sym same) (keeps-place ks [] (freeBits ks us) (ok .ordered)) in
+          rw kept (sym (fed-zero r (freeBits ks us) w (subst (λ (x : List Bool). Fed r x w) frees-back d)))
