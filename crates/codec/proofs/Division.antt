@@ -168,7 +168,7 @@ getD-map f [] i a = refl
 getD-map f (x ∷ l) zero a = refl
 getD-map f (x ∷ l) (suc i) a = getD-map f l i a
 
-take-map : {A B : Type 0} (f : A → B) (i : ℕ) (l : List A) → take i (map f l) ≡ map f (take i l)
+pub take-map : {A B : Type 0} (f : A → B) (i : ℕ) (l : List A) → take i (map f l) ≡ map f (take i l)
 take-map f zero l = refl
 take-map f (suc i) [] = refl
 take-map {B = B} f (suc i) (x ∷ l) = ap {B = List B} (λ t. f x ∷ t) (take-map f i l)
