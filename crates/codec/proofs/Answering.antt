@@ -2,8 +2,8 @@
 --     Passed, passed        a sheet that is not refused, with N and K
 --     encode-sheet, encode-word, Accepted, accepted      encode: refused for the sheet, for the payload; not refused
 --     read-sheet, read-word, Read, reads                 read-back: the same
-use mathlib.Core.Path.{_≡_, refl, sym, ap, ap₂, _∙_, subst}
-use Prim.Native.Nat.{ℕ, _+_, _-_, _*_, _^_, _≤_}
+use mathlib.Core.Path.{_≡_, sym, ap, ap₂, _∙_, subst}
+use Prim.Native.Nat.{ℕ, _-_, _*_, _^_, _≤_}
 use native.Mathlib.Omega.{arith}
 use mathlib.Core.Bool.{Bool, true, false}
 use mathlib.Core.List.{List, [], _∷_, _++_, map}
@@ -25,11 +25,11 @@ use Rattle.meaning.proofs.Forms.{Good, good, checked-none, worded, worded-none,
 use Rattle.meaning.proofs.Polar.{length-polar}
 use Rattle.meaning.proofs.Sound.{length-rules}
 use Rattle.meaning.proofs.Encode.{length-free}
-use Rattle.meaning.proofs.ReadBack.{encode-is, read-is, ones-back}
+use Rattle.meaning.proofs.ReadBack.{encode-is, read-is}
 use Rattle.codec.specs.Division.{AreBits}
-use Rattle.codec.specs.Ready.{Ready, Whole}
-use Rattle.codec.proofs.Division.{take-map}
+use Rattle.codec.specs.Ready.{Ready, Whole, Legible, Extracted}
 use Rattle.codec.proofs.Sending.{bits-are}
+use Rattle.codec.proofs.Reading.{length-u, rules-u}
 
 frees-le : (ks : List Rule) → frees ks ≤ length ks
 frees-le [] = omega arith
@@ -118,14 +118,9 @@ module _ (n : ℕ) (s : List ℕ) (r size k : ℕ) (ok : Passed n s r size k) (p
 -- ---- read-back
 
 pub record Read (n : ℕ) (s : List ℕ) (r size k : ℕ) (w out : List ℕ) : Type 0 where
-  pub bits : AreBits w
-  pub long : length w ≡ 2 ^ n
+  pub legible : (j m : ℕ) → j ≡ k → m ≡ size → Legible n s r w j m
   pub roomy : k - r ≤ length out
-  -- u is the vector behind the word
-  pub ready : (u : List ℕ) → u ≡ map bit (polar n (map isOne w)) → (j m : ℕ) → j ≡ k → m ≡ size → Whole s r u j m
-  pub refused : (u : List ℕ) → u ≡ map bit (polar n (map isOne w)) → false ≡ keeps (tab (length u) (ruleAt s)) r (map isOne u) → leaving out (Inconsistent 0 0) ≡ readingBack n s r w out
-  pub given : (u f : List ℕ) → u ≡ map bit (polar n (map isOne w)) → true ≡ keeps (tab (length u) (ruleAt s)) r (map isOne u) → f ≡ map bit (freeBits (tab (length u) (ruleAt s)) (map isOne u))
-      → (out′ : List ℕ) → out′ ≡ take (k - r) f ++ drop (k - r) out → leaving out′ Done ≡ readingBack n s r w out
+  pub told : (out′ : List ℕ) (b : Bool) → Extracted n s r w (k - r) out out′ b → leaving out′ (pick b Done (Inconsistent 0 0)) ≡ readingBack n s r w out
 
 module _ (n : ℕ) (s : List ℕ) (r size k : ℕ) (ok : Passed n s r size k) (w out : List ℕ) (v : Answer) (ev : v ≡ wording size 1 (k - r) w (length out)) (d : Bool) (ed : d ≡ isDone v) where
   read-told : v ≡ wording (2 ^ n) 1 (frees (rules n s) - r) w (length out)
@@ -158,55 +153,41 @@ module _ (n : ℕ) (s : List ℕ) (r size k : ℕ) (ok : Passed n s r size k) (w
     unfolding readRefusals
     answer = read-is n s r w out (both-none (sheetRefusals n s r) _ (ok .none) none)
 
-    module _ (u : List ℕ) (e : u ≡ map bit us) where
-      length-u : length u ≡ 2 ^ n
-      length-u = ap length e ∙ length-map us bit ∙ length-us
+    whole : (j m : ℕ) → j ≡ k → m ≡ size → (u : List ℕ) → u ≡ map bit us → Whole s r u j m
+    unfolding largestN maskBytes
+    whole j m ej em u e =
+        let lu : length u ≡ 2 ^ n = length-u n s w u word-long e in
+        let ru : tab (length u) (ruleAt s) ≡ rules n s = rules-u n s w u word-long e in
+        record {
+          long = ok .sheet .long ∙ ap (λ (x : ℕ). x * recordBytes) (sym lu);
+          within = omega (arith, lu, pow-mono (ok .sheet .small));
+          ordered = ap (early 0) ru ∙ ok .sheet .ordered;
+          check = ok .sheet .check;
+          bits = subst (λ (l : List ℕ). AreBits l) (sym e) (bits-are us);
+          count = ej ∙ ok .count ∙ ap frees (sym ru);
+          room = em ∙ ok .length-is ∙ sym lu;
+        }
 
-      back : map isOne u ≡ us
-      back = ap (map isOne) e ∙ ones-back us
+    -- the payload has K - r bits
+    length-payload : length (map bit (payloadOf n (rules n s) r (map isOne w))) ≡ k - r
+    unfolding payloadOf
+    length-payload =
+        let lf = length-free (rules n s) us (length-us ∙ sym (length-rules n s)) in
+        length-map (take (frees (rules n s) - r) (freeBits (rules n s) us)) bit ∙ simp length-take (omega (arith, ok .count))
 
-      rules-u : tab (length u) (ruleAt s) ≡ rules n s
-      unfolding rules
-      rules-u = ap (λ (m : ℕ). tab m (ruleAt s)) length-u
-
-      whole : (j m : ℕ) → j ≡ k → m ≡ size → Whole s r u j m
-      unfolding largestN maskBytes
-      whole j m ej em = record {
-        long = ok .sheet .long ∙ ap (λ (x : ℕ). x * recordBytes) (sym length-u);
-        within = omega (arith, length-u, pow-mono (ok .sheet .small));
-        ordered = ap (early 0) rules-u ∙ ok .sheet .ordered;
-        check = ok .sheet .check;
-        bits = subst (λ (l : List ℕ). AreBits l) (sym e) (bits-are us);
-        count = ej ∙ ok .count ∙ ap frees (sym rules-u);
-        room = em ∙ ok .length-is ∙ sym length-u;
-      }
-
-      kept : keeps (tab (length u) (ruleAt s)) r (map isOne u) ≡ keeps (rules n s) r us
-      kept = ap₂ (λ (l : List Rule) (x : List Bool). keeps l r x) rules-u back
-
-      no-codeword : false ≡ keeps (tab (length u) (ruleAt s)) r (map isOne u) → leaving out (Inconsistent 0 0) ≡ readingBack n s r w out
-      no-codeword h = sym (answer ∙ rw (sym kept ∙ sym h))
-
-      payload : (f : List ℕ) → true ≡ keeps (tab (length u) (ruleAt s)) r (map isOne u) → f ≡ map bit (freeBits (tab (length u) (ruleAt s)) (map isOne u))
-          → (out′ : List ℕ) → out′ ≡ take (k - r) f ++ drop (k - r) out → leaving out′ Done ≡ readingBack n s r w out
-      unfolding payloadOf
-      payload f h ef out′ eo =
-          let fb : List Bool = freeBits (rules n s) us in
-          let p : List Bool = take (frees (rules n s) - r) fb in
-          let lf : length fb ≡ frees (rules n s) = length-free (rules n s) us (length-us ∙ sym (length-rules n s)) in
-          let lp : length (map bit p) ≡ k - r = length-map p bit ∙ simp length-take (omega (arith, ok .count)) in
-          let ep : take (k - r) f ≡ map bit p =
-          ap (take (k - r)) (ef ∙ ap₂ (λ (l : List Rule) (x : List Bool). map bit (freeBits l x)) rules-u back) ∙ take-map bit (k - r) fb ∙ ap (λ (m : ℕ). map bit (take (m - r) fb)) (ok .count) in
-          ap (λ (l : List ℕ). leaving l Done) (eo ∙ ap₂ {C = List ℕ} (λ (a : List ℕ) (m : ℕ). a ++ drop m out) ep (sym lp)) ∙ sym (answer ∙ rw (sym kept ∙ sym h))
+    replied : (out′ : List ℕ) (b : Bool) → Extracted n s r w (k - r) out out′ b → leaving out′ (pick b Done (Inconsistent 0 0)) ≡ readingBack n s r w out
+    unfolding payloadOf
+    replied out′ true x =
+        let lp = length-payload in
+        let ep : map bit (take (k - r) (freeBits (rules n s) us)) ≡ map bit (payloadOf n (rules n s) r (map isOne w)) = ap (λ (m : ℕ). map bit (take (m - r) (freeBits (rules n s) us))) (ok .count) in
+        ap (λ (l : List ℕ). leaving l Done) (x .leaves ∙ ap₂ {C = List ℕ} (λ (a : List ℕ) (m : ℕ). a ++ drop m out) ep (sym lp)) ∙ sym (answer ∙ rw (sym (x .tells)))
+    replied out′ false x = ap (λ (l : List ℕ). leaving l (Inconsistent 0 0)) (x .leaves) ∙ sym (answer ∙ rw (sym (x .tells)))
 
     pub reads : Read n s r size k w out
     reads =
         let wd = worded (2 ^ n) 1 (frees (rules n s) - r) w (length out) none in
         record {
-          bits = bits-back w (wd .symbols);
-          long = word-long;
+          legible = λ j m ej em. record { bits = bits-back w (wd .symbols); long = word-long; behind = whole j m ej em };
           roomy = omega (arith, ok .count, wd .roomy);
-          ready = whole;
-          refused = no-codeword;
-          given = λ u f e. payload u e f;
+          told = replied;
         }

@@ -16,10 +16,10 @@ use lib.Seq.{take-suc}
 use lib.Dec.{eqb}
 use lib.Pow.{pow-pos}
 use lib.Bits.{bitXor, xor-block, xor-lt}
-use borrow.Author.Tests.{eq-eqb, ne-eqb, eqb-true, eqb-false}
-use Rattle.bits.specs.Vectors.{_⊕_, _⊞_, bit, pick, zeros}
+use borrow.Author.Tests.{eq-eqb, ne-eqb}
+use Rattle.bits.specs.Vectors.{_⊕_, _⊞_, bit, zeros}
 use Rattle.bits.specs.Words.{bitAt}
-use Rattle.bits.proofs.Xor.{none, ⊞-none}
+use Rattle.bits.proofs.Xor.{⊞-none}
 use Rattle.bits.proofs.Words.{bit-xor}
 use Rattle.meaning.specs.Limits.{leads}
 use Rattle.meaning.specs.Check.{poly, shift, rest, divides}
@@ -117,9 +117,10 @@ module _ (r s : ℕ) (b : Bool) (d : Divisor r) (h : s < 2 ^ r) where
       let ep : p ≡ 1 * 2 ^ r + (p - 2 ^ r) = omega (arith, d .low) in
       let lt : t - 2 ^ r < 2 ^ r = omega (arith, bit-small b) in
       let lp : p - 2 ^ r < 2 ^ r = omega (arith, d .low, d .high) in
-      let e : bitXor t p ≡ bitXor (t - 2 ^ r) (p - 2 ^ r) = ap₂ bitXor et ep ∙ xor-block r 1 1 (t - 2 ^ r) (p - 2 ^ r) lt lp ∙ omega arith in
-      (rw e (xor-lt r (t - 2 ^ r) (p - 2 ^ r) lt lp),
-      toBits-xor r t p ∙ ap (λ (g : List Bool). toBits r t ⊞ g) (d .bits ∙ sym (map-id (poly r))) ∙ sym (shifted true (λ k q. top-one k q l)))
+      let e : bitXor t p ≡ bitXor (t - 2 ^ r) (p - 2 ^ r) = ap₂ bitXor et ep ∙ xor-block r 1 1 (t - 2 ^ r) (p - 2 ^ r) lt lp ∙ omega arith in (
+        rw e (xor-lt r (t - 2 ^ r) (p - 2 ^ r) lt lp),
+        toBits-xor r t p ∙ ap (λ (g : List Bool). toBits r t ⊞ g) (d .bits ∙ sym (map-id (poly r))) ∙ sym (shifted true (λ k q. top-one k q l)),
+      )
 
   pub step-under : s * 2 + bit b < 2 ^ r → toBits r (s * 2 + bit b) ≡ shift (poly r) (toBits r s) b
   step-under l =

@@ -5,15 +5,14 @@
 --     odd-held            what the values hold decides
 --     holds-more          one value more
 use mathlib.Core.Path.{_≡_, refl, sym, ap, ap₂, _∙_}
-use mathlib.Core.Logic.{_⊎_, inl, inr}
-use Prim.Native.Nat.{ℕ, zero, suc, _+_, _-_, _*_, _/_, _%_, _^_, _<_, _≤_}
+use Prim.Native.Nat.{ℕ, zero, suc, _+_, _*_, _/_, _%_, _^_, _<_, _≤_}
 use native.Mathlib.Omega.{arith}
-use native.Mathlib.Nat.{suc-inj, pow-suc, div-one, mod-lt, zero-add, suc-add, zero-div, zero-mul, one-mul}
+use native.Mathlib.Nat.{suc-inj, pow-suc, div-one, mod-lt, zero-div, zero-mul, one-mul}
 use native.Mathlib.Decide.{decLt, ℕ-discrete}
 use native.Mathlib.Numerals.{add-one}
-use mathlib.Core.Bool.{Bool, true, false, _&&_, not}
-use mathlib.Core.List.{List, [], _∷_, _++_, map}
-use lib.ListN.{length, take, drop, getD, set, length-take, length-drop, drop-of-length-le, length-append, length-set, replicate}
+use mathlib.Core.Bool.{Bool, true, false, _&&_}
+use mathlib.Core.List.{List, [], _∷_, _++_}
+use lib.ListN.{length, drop, getD, set, length-take, length-drop, drop-of-length-le, length-append, length-set, replicate}
 use lib.Seq.{drop-cons, getD-take, getD-drop, getD-set-same, getD-set-other, getD-append-seam}
 use lib.Dec.{eqb, eqb·suc-suc}
 use lib.Bits.{bitAnd, bitXor, and-zero-l, and-shr, and-mod, shifted-even, shifted-half}
@@ -26,7 +25,7 @@ use Rattle.bits.proofs.Xor.{⊕-assoc, ⊕-false}
 use Rattle.bits.proofs.Tests.{length-tab, tab-at, tab-below, tab-ext, tab-append}
 use Rattle.bits.proofs.Words.{bit-xor}
 use Rattle.meaning.specs.Limits.{maskBytes, recordBytes}
-use Rattle.meaning.specs.Sheet.{names, mask, byte}
+use Rattle.meaning.specs.Sheet.{names, mask}
 use Rattle.meaning.specs.Check.{odd}
 use Rattle.meaning.specs.Answers.{isOne}
 use Rattle.codec.specs.Packed.{bitsOf, unpacked, held, Holds, maskOf}
@@ -203,7 +202,6 @@ pub small-shift : (b k : ℕ) → b < 2 → k < 8 → b * 2 ^ k < 2 ^ 8
 small-shift zero k hb hk = rw (zero-mul (2 ^ k)) (omega arith)
 small-shift (suc zero) k hb hk = rw (one-mul (2 ^ k)) (pow-lt hk)
 small-shift (suc (suc b)) k hb hk = absurd (omega arith)
-
 
 one-bit : (b : Bool) (t k : ℕ) → bitAt (bit b * 2 ^ t) k ≡ pick (eqb k t) (bit b) 0
 one-bit b zero zero = ap (λ (x : ℕ). x % 2) (div-one (bit b * 1)) ∙ small b

@@ -4,17 +4,17 @@
 --     Taking           what is known when the free bits of i positions are taken
 --     free-taken, frozen-passed, taken    one position more; all of them
 use mathlib.Core.Path.{_≡_, refl, sym, ap, ap₂, _∙_}
-use Prim.Native.Nat.{ℕ, zero, suc, _+_, _*_, _/_, _%_, _^_, _<_, _≤_}
+use Prim.Native.Nat.{ℕ, suc, _+_, _*_, _/_, _%_, _^_, _<_, _≤_}
 use native.Mathlib.Omega.{arith}
 use native.Mathlib.Numerals.{add-one}
 use mathlib.Core.Bool.{Bool, true, false}
 use mathlib.Core.List.{List, [], _∷_, _++_, map, map-append, append-assoc, append-nil}
 use lib.ListN.{length, take, drop, getD, set, replicate, length-set, length-map, length-take, length-replicate, drop-of-length-le}
-use lib.Seq.{drop-cons, take-suc-set, take-all, take-suc, drop-set-lt}
+use lib.Seq.{drop-cons, take-suc-set, take-all}
 use lib.Dec.{eqb}
 use lib.Bits.{bitXor}
 use borrow.Author.Tests.{eq-eqb, ne-eqb}
-use Rattle.bits.specs.Vectors.{_⊕_, bit, pick, tab}
+use Rattle.bits.specs.Vectors.{_⊕_, bit, tab}
 use Rattle.bits.proofs.Tests.{length-tab, tab-at}
 use Rattle.meaning.specs.Limits.{maskBytes}
 use Rattle.meaning.specs.Sheet.{byte, mask, Rule, free, frozen, ruleAt, frees}
@@ -64,7 +64,13 @@ module _ (s : List ℕ) (size : ℕ) where
 
     pub starts : (u : List ℕ) → length u ≡ size → length f ≡ frees ks → Placing u (replicate maskBytes 0) 0 0
     starts u l e = record {
-      low = omega arith; long = l; wide = length-replicate maskBytes 0; bits = refl; holds = holds-none maskBytes; room = omega arith; left = refl
+      low = omega arith;
+      long = l;
+      wide = length-replicate maskBytes 0;
+      bits = refl;
+      holds = holds-none maskBytes;
+      room = omega arith;
+      left = refl;
     }
 
     module _ (u v : List ℕ) (next i : ℕ) (h : i < size) (p : Placing u v next i) where

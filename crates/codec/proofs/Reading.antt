@@ -1,29 +1,31 @@
 -- From a whole word to its payload, in the values that the code has.
 --     unsent              the vector behind a word
+--     nothing, something  what is left in the output
 --     again, broken, held     whether it keeps the rules: it is the vector that they give for its own free bits
 use mathlib.Core.Path.{_≡_, refl, sym, ap, ap₂, _∙_, subst}
-use Prim.Native.Nat.{ℕ, _+_, _*_, _^_, _≤_}
+use Prim.Native.Nat.{ℕ, _*_, _^_, _≤_}
 use native.Mathlib.Omega.{arith}
 use mathlib.Core.Bool.{Bool, true, false, _&&_, true≢false}
 use mathlib.Core.List.{List, [], _++_, map, append-nil}
-use lib.ListN.{length, take, drop, length-map, drop-of-length-le}
+use lib.ListN.{length, take, drop, length-map, length-take, drop-of-length-le}
 use lib.Seq.{take-all}
 use lib.Dec.{eqb}
 use Rattle.bits.specs.Vectors.{bit, tab}
 use Rattle.bits.proofs.Tests.{length-tab}
 use Rattle.meaning.specs.Limits.{recordBytes, maskBytes, leads}
 use Rattle.meaning.specs.Transform.{polar}
-use Rattle.meaning.specs.Sheet.{Rule, ruleAt, frees}
+use Rattle.meaning.specs.Sheet.{Rule, ruleAt, rules, frees}
 use Rattle.meaning.specs.Check.{keepsRules, freeBits, divides, keeps}
 use Rattle.meaning.specs.Payload.{place}
 use Rattle.meaning.specs.Answers.{isOne}
+use Rattle.meaning.proofs.Polar.{length-polar}
 use Rattle.meaning.proofs.Encode.{length-free, keeps-place, place-unique}
 use Rattle.meaning.proofs.ReadBack.{ones-back}
 use Rattle.codec.specs.Bytes.{polarBytes}
 use Rattle.codec.specs.Division.{AreBits, Fed}
-use Rattle.codec.specs.Ready.{Whole}
+use Rattle.codec.specs.Ready.{Whole, Extracted}
 use Rattle.codec.proofs.Transforming.{polar-bytes}
-use Rattle.codec.proofs.Division.{fed-zero}
+use Rattle.codec.proofs.Division.{fed-zero, take-map}
 use Rattle.codec.proofs.Sending.{bits-are}
 
 -- ---- the vector behind a word
@@ -32,6 +34,36 @@ pub unsent : (n : ℕ) (w u l z : List ℕ) → AreBits w → length w ≡ 2 ^ n
 unsent n w u l z a lw lu el ez =
     let e : l ≡ w = el ∙ ap₂ {C = List ℕ} _++_ (take-all (length w) w (omega arith)) (drop-of-length-le u {i = length w} (omega arith)) ∙ append-nil w in
     ez ∙ ap (polarBytes n) (e ∙ sym a) ∙ polar-bytes n (map isOne w) (length-map w isOne ∙ lw)
+
+-- u, the vector behind a word, as bytes
+module _ (n : ℕ) (s : List ℕ) (w u : List ℕ) (lw : length w ≡ 2 ^ n) (e : u ≡ map bit (polar n (map isOne w))) where
+  pub length-u : length u ≡ 2 ^ n
+  length-u = ap length e ∙ length-map (polar n (map isOne w)) bit ∙ length-polar n (map isOne w) (length-map w isOne ∙ lw)
+
+  back : map isOne u ≡ polar n (map isOne w)
+  back = ap (map isOne) e ∙ ones-back (polar n (map isOne w))
+
+  pub rules-u : tab (length u) (ruleAt s) ≡ rules n s
+  unfolding rules
+  rules-u = ap (λ (m : ℕ). tab m (ruleAt s)) length-u
+
+  module _ (r m : ℕ) (out : List ℕ) (b : Bool) (eb : b ≡ keeps (tab (length u) (ruleAt s)) r (map isOne u)) where
+    tells : b ≡ keeps (rules n s) r (polar n (map isOne w))
+    tells = eb ∙ ap₂ (λ (l : List Rule) (x : List Bool). keeps l r x) rules-u back
+
+    pub nothing : b ≡ false → Extracted n s r w m out out false
+    nothing t = record { tells = sym t ∙ tells; leaves = refl }
+
+    pub something : b ≡ true → (f out′ : List ℕ) → f ≡ map bit (freeBits (tab (length u) (ruleAt s)) (map isOne u)) → m ≤ length f
+        → out′ ≡ take (length (take m f)) (take m f) ++ drop (length (take m f)) out → Extracted n s r w m out out′ true
+    something t f out′ ef lm eo =
+        let fb : List Bool = freeBits (rules n s) (polar n (map isOne w)) in
+        let lf : length (take m f) ≡ m = simp length-take (omega arith) in
+        let es : take m f ≡ map bit (take m fb) = ap (take m) (ef ∙ ap₂ (λ (l : List Rule) (x : List Bool). map bit (freeBits l x)) rules-u back) ∙ take-map bit m fb in
+        record {
+          tells = sym t ∙ tells;
+          leaves = eo ∙ ap₂ {C = List ℕ} (λ (x : List ℕ) (j : ℕ). x ++ drop j out) (take-all (length (take m f)) (take m f) (omega arith) ∙ es) lf;
+        }
 
 -- ---- whether it keeps the rules
 
@@ -55,9 +87,10 @@ module _ (s : List ℕ) (r : ℕ) (u : List ℕ) (k m : ℕ) (ok : Whole s r u k
     -- the free bits give the vector again
     pub place-again : (v : List ℕ) → length v ≡ m → ((length s ≡ length v * recordBytes) × (length v ≤ 8 * maskBytes)) × (AreBits f × (length f ≡ frees (tab (length v) (ruleAt s))))
     place-again v lv =
-        let e : length v ≡ length u = lv ∙ ok .room in
-        ((ok .long ∙ ap (λ (j : ℕ). j * recordBytes) (sym e), omega (arith, ok .within)),
-        (free-bits, ap length ef ∙ length-map (freeBits ks us) bit ∙ length-free ks us length-us ∙ ap (λ (j : ℕ). frees (tab j (ruleAt s))) (sym e)))
+        let e : length v ≡ length u = lv ∙ ok .room in (
+          (ok .long ∙ ap (λ (j : ℕ). j * recordBytes) (sym e), omega (arith, ok .within)),
+          (free-bits, ap length ef ∙ length-map (freeBits ks us) bit ∙ length-free ks us length-us ∙ ap (λ (j : ℕ). frees (tab j (ruleAt s))) (sym e)),
+        )
 
     module _ (v y : List ℕ) (lv : length v ≡ m) (ey : y ≡ map bit (place (tab (length v) (ruleAt s)) [] (map isOne f))) where
       again : y ≡ map bit (place ks [] (freeBits ks us))

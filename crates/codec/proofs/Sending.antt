@@ -2,12 +2,11 @@
 --     tail-length, checked     the payload with its check bits behind it
 --     placed-bytes, sent       the vector that the rules give, and its transform
 use mathlib.Core.Path.{_≡_, refl, sym, ap, ap₂, _∙_, subst}
-use mathlib.Core.Logic.{_⊎_}
-use Prim.Native.Nat.{ℕ, zero, suc, _+_, _-_, _*_, _^_, _<_, _≤_}
+use Prim.Native.Nat.{ℕ, _+_, _-_, _*_, _^_, _≤_}
 use native.Mathlib.Omega.{arith}
 use mathlib.Core.Bool.{Bool, false}
 use mathlib.Core.List.{List, [], _++_, map, map-append}
-use lib.ListN.{length, take, drop, replicate, length-append, length-map, length-take, length-drop}
+use lib.ListN.{length, take, drop, replicate, length-drop}
 use lib.Seq.{take-all}
 use lib.Pow.{pow-mono}
 use borrow.Rule.Slice.PartMut.{putMid}
@@ -59,10 +58,13 @@ module _ (n : ℕ) (s : List ℕ) (r : ℕ) (p : List ℕ) (k : ℕ) (ok : Ready
   module _ (x f : List ℕ) (lx : length x ≡ 2 ^ n) (lf : length f ≡ k) (e : f ≡ map bit (map isOne p ++ remainder (poly r) (leads r ++ map isOne p))) where
     pub place-ready : ((length s ≡ length x * recordBytes) × (length x ≤ 8 * maskBytes)) × (AreBits f × (length f ≡ frees (tab (length x) (ruleAt s))))
     unfolding rules
-    place-ready =
-        ((ok .long ∙ ap (λ (m : ℕ). m * recordBytes) (sym lx), within (length x) lx),
-        (subst (λ (l : List ℕ). AreBits l) (sym e) (bits-are (map isOne p ++ remainder (poly r) (leads r ++ map isOne p))),
-        lf ∙ ok .count ∙ ap (λ (m : ℕ). frees (tab m (ruleAt s))) (sym lx)))
+    place-ready = (
+      (ok .long ∙ ap (λ (m : ℕ). m * recordBytes) (sym lx), within (length x) lx),
+      (
+        subst (λ (l : List ℕ). AreBits l) (sym e) (bits-are (map isOne p ++ remainder (poly r) (leads r ++ map isOne p))),
+        lf ∙ ok .count ∙ ap (λ (m : ℕ). frees (tab m (ruleAt s))) (sym lx),
+      ),
+    )
 
     pub sent : (y z : List ℕ) → y ≡ map bit (place (tab (length x) (ruleAt s)) [] (map isOne f)) → z ≡ polarBytes n y → z ≡ map bit (polar n (encoded (rules n s) r (map isOne p)))
     unfolding encoded rules

@@ -1,15 +1,20 @@
 -- What is known once nothing is refused.
 --     Ready      a good sheet with K free positions, and a payload of K - r bits
+--     Legible    a good sheet for a word with nothing erased
+--     Extracted  what is left in the output: the payload of a codeword, or nothing new
 --     Whole      a good sheet for a vector of bits, with K places for its free bits and as many as it has for another vector
 use mathlib.Core.Path.{_≡_}
 use mathlib.Core.Logic.{_⊎_}
 use Prim.Native.Nat.{ℕ, _+_, _*_, _^_, _≤_}
-use mathlib.Core.Bool.{true}
-use mathlib.Core.List.{List}
-use lib.ListN.{length}
-use Rattle.bits.specs.Vectors.{tab}
+use mathlib.Core.Bool.{Bool, true}
+use mathlib.Core.List.{List, _++_, map}
+use lib.ListN.{length, take, drop}
+use Rattle.bits.specs.Vectors.{bit, pick, tab}
 use Rattle.meaning.specs.Limits.{largestN, maskBytes, recordBytes}
 use Rattle.meaning.specs.Sheet.{ruleAt, rules, frees, early}
+use Rattle.meaning.specs.Transform.{polar}
+use Rattle.meaning.specs.Check.{freeBits, keeps}
+use Rattle.meaning.specs.Answers.{isOne}
 use Rattle.codec.specs.Division.{AreBits}
 
 pub record Ready (n : ℕ) (s : List ℕ) (r : ℕ) (p : List ℕ) (k : ℕ) : Type 0 where
@@ -28,3 +33,13 @@ pub record Whole (s : List ℕ) (r : ℕ) (u : List ℕ) (k m : ℕ) : Type 0 wh
   pub bits : AreBits u
   pub count : k ≡ frees (tab (length u) (ruleAt s))
   pub room : m ≡ length u
+
+pub record Legible (n : ℕ) (s : List ℕ) (r : ℕ) (w : List ℕ) (k m : ℕ) : Type 0 where
+  pub bits : AreBits w
+  pub long : length w ≡ 2 ^ n
+  pub behind : (u : List ℕ) → u ≡ map bit (polar n (map isOne w)) → Whole s r u k m
+
+-- b tells whether the word is a codeword
+pub record Extracted (n : ℕ) (s : List ℕ) (r : ℕ) (w : List ℕ) (m : ℕ) (out out′ : List ℕ) (b : Bool) : Type 0 where
+  pub tells : b ≡ keeps (rules n s) r (polar n (map isOne w))
+  pub leaves : out′ ≡ pick b (map bit (take m (freeBits (rules n s) (polar n (map isOne w)))) ++ drop m out) out

@@ -12,7 +12,7 @@ ghost use Rattle.meaning.specs.Sheet.{ruleAt, rules};
 ghost use Rattle.meaning.specs.Check.{poly, freeBits, keeps};
 ghost use Rattle.meaning.specs.Payload.{remainder, encoded};
 ghost use Rattle.codec.specs.Division.{AreBits};
-ghost use Rattle.codec.specs.Ready.{Ready, Whole};
+ghost use Rattle.codec.specs.Ready.{Ready, Whole, Legible, Extracted};
 ghost use Rattle.meaning.specs.Answers.{checking, wording, encoding, readingBack, leaving, isOne};
 
 mod register;
@@ -146,6 +146,30 @@ fn lawful(sheet: &[u8], r: usize, u: &[u8], free: &mut [u8], v: &mut [u8]) -> bo
     register::feed(free, r) == 0
 }
 
+// Writes the first m free bits behind a word, if it is a codeword; answers whether it is. `u` and `v` have N places, `free` K.
+fn extract(
+    n: usize,
+    sheet: &[u8],
+    r: usize,
+    word: &[u8],
+    m: usize,
+    u: &mut [u8],
+    free: &mut [u8],
+    v: &mut [u8],
+    out: &mut [u8],
+) -> bool
+    requires { ⌜ Legible n (now sheet) r (now word) (length (now free)) (length (now v)) × (length (now u) ≡ 2 ^ n) ⌝ }
+    requires { ⌜ (m ≤ length (now free)) × (m ≤ length (now out)) ⌝ }
+    ensures { λ b. ⌜ Extracted n (now (sheet .entry)) r (now (word .entry)) m (now (out .entry)) (now (out .exit)) b ⌝ }
+{
+    unsend(n, word, u);
+    if !lawful(sheet, r, u, free, v) {
+        return false;
+    }
+    bytes::copy(&free[0..m], out);
+    true
+}
+
 // `read_back`, with room for two vectors and for the free bits.
 fn read_in(
     n: usize,
@@ -166,16 +190,24 @@ fn read_in(
     }
     let size = sheet::size_of(n);
     let k = sheet::frees(sheet, size);
-    let b = check_word(word, size, 1, out.len(), k - r);
+    let m = k - r;
+    let b = check_word(word, size, 1, out.len(), m);
     if !meaning::is_done(b) {
         return b;
     }
-    unsend(n, word, &mut u[0..size]);
-    if !lawful(sheet, r, &u[0..size], &mut free[0..k], &mut v[0..size]) {
+    if !extract(
+        n,
+        sheet,
+        r,
+        word,
+        m,
+        &mut u[0..size],
+        &mut free[0..k],
+        &mut v[0..size],
+        out,
+    ) {
         return Answer::Inconsistent { g: 0, m: 0 };
     }
-    let m = k - r;
-    bytes::copy(&free[0..m], out);
     Answer::Done
 }
 

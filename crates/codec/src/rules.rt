@@ -13,7 +13,6 @@ ghost use Rattle.meaning.specs.Payload.{place};
 ghost use Rattle.meaning.specs.Answers.{isOne};
 ghost use Rattle.codec.specs.Division.{AreBits};
 ghost use Rattle.codec.specs.Packed.{held};
-
 use crate::sheet;
 
 // A byte as a word.
@@ -44,7 +43,11 @@ fn rule_bit(sheet: &[u8], i: usize, values: &[u8]) -> u8
     ensures { λ r. ⌜ r ≡ bit (eqb (byte (now (sheet .entry)) i 1) 1 ⊕ odd (mask (now (sheet .entry)) i) (held (now (values .entry)))) ⌝ }
 {
     let o = odd_named(sheet, i, values);
-    if sheet::byte_at(sheet, i, 1) == 1 { o ^ 1 } else { o }
+    if sheet::byte_at(sheet, i, 1) == 1 {
+        o ^ 1
+    } else {
+        o
+    }
 }
 
 // Puts the value b of position i in.

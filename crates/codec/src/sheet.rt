@@ -15,6 +15,7 @@ pub const LARGEST_N: usize = 7;
 pub const RECORD: usize = 20;
 
 pub const MASK: usize = 16;
+
 pub const POSITIONS: usize = 128;
 
 // N, 2 to the n.

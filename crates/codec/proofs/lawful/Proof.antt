@@ -1,42 +1,28 @@
 use mathlib.Core.Path.{refl}
 use borrow.Author.Tests.{not-true, not-false}
+use borrow.Author.Needs.{needs}
 use Rattle.codec.proofs.Reading.{free-bits, place-again, broken, held}
-use borrow.Author.Needs.{needs}
-use native.Mathlib.Omega.{arith}
-use borrow.Author.Needs.{needs}
 use Rattle.codec.proofs.lawful.Statement.{statement}
 use Rattle.codec.proofs.lawful.Tie as tie
-use Rattle.codec.proofs.lawful.Reads as reads
-use Rattle.codec.proofs.lawful.Lts as lts
-use Rattle.check.proofs.same.Reads as same-reads
-use Rattle.codec.proofs.register.feed.Reads as feed-reads
-use Rattle.codec.proofs.rules.place_bits.Reads as place-bits-reads
-use Rattle.codec.proofs.rules.take_free.Reads as take-free-reads
 
--- src/lib.rt:141:5
 take-free-requires : tie.Need-take-free-requires
 take-free-requires c κs = let ok = c .before .before .before .before .before .pre in ((ok .long, ok .bits), ok .count)
 
--- src/lib.rt:142:5
 place-bits-requires : tie.Need-place-bits-requires
 place-bits-requires c κs =
     let take = c .before .before .before .before in
     let start = take .before .before .before .before .before .before in
     place-again _ _ _ _ _ (start .pre) (take .take-free .last .1 .1 .0) (take .take-free .ensures) (start .args .v .now) refl
 
--- src/lib.rt:143:9
 same-requires : tie.Need-same-requires
 same-requires c κs = search needs
 
--- src/lib.rt:144:9
 same-length : tie.Need-same-length
 same-length c = search needs
 
--- src/lib.rt:144:9
 same-length-2 : tie.Need-same-length-2
 same-length-2 c = search needs
 
--- src/lib.rt:144:9
 returns : tie.Need-returns
 returns c =
     let same = c .before in
@@ -46,7 +32,6 @@ returns c =
     let f = take .take-free .last .1 .1 .0 in
     (broken _ _ _ _ _ (start .pre) f (take .take-free .ensures) (start .args .v .now) (place .place-bits .last .1 .1 .0) refl (place .place-bits .ensures) _ (same .same .ensures .1) (not-true _ (c .if1 .taken)), take .take-free .ensures)
 
--- src/lib.rt:146:5
 feed-requires : tie.Need-feed-requires
 feed-requires c κs =
     let same = c .before .before in
@@ -55,15 +40,12 @@ feed-requires c κs =
     let start = take .before .before .before .before .before .before in
     (start .pre .check, free-bits _ _ _ _ _ (start .pre) (take .take-free .last .1 .1 .0) (take .take-free .ensures))
 
--- src/lib.rt:137:1
 same-length-3 : tie.Need-same-length-3
 same-length-3 c = search needs
 
--- src/lib.rt:137:1
 same-length-4 : tie.Need-same-length-4
 same-length-4 c = search needs
 
--- src/lib.rt:137:1
 returns-2 : tie.Need-returns-2
 returns-2 c =
     let same = c .before .before .before in

@@ -1,166 +1,141 @@
-use borrow.Author.Needs.{needs}
+use mathlib.Core.Path.{_≡_, sym, ap, _∙_}
+use Prim.Native.Nat.{ℕ, _*_, _-_}
 use native.Mathlib.Omega.{arith}
+use lib.ListN.{length, take, length-take}
+use borrow.Author.Tests.{not-true, not-false}
 use borrow.Author.Needs.{needs}
+use Rattle.meaning.specs.Limits.{recordBytes}
+use Rattle.codec.proofs.Answering.{Passed, passed, passed-good, read-sheet, read-word, Read, reads}
 use Rattle.codec.proofs.read_in.Statement.{statement}
 use Rattle.codec.proofs.read_in.Tie as tie
-use Rattle.codec.proofs.read_in.Reads as reads
-use Rattle.codec.proofs.read_in.Lts as lts
-use Rattle.bytes.proofs.copy.Reads as copy-reads
-use Rattle.codec.proofs.check_sheet.Reads as check-sheet-reads
-use Rattle.codec.proofs.check_word.Reads as check-word-reads
-use Rattle.codec.proofs.lawful.Reads as lawful-reads
-use Rattle.codec.proofs.sheet.frees.Reads as frees-reads
-use Rattle.codec.proofs.sheet.size_of.Reads as size-of-reads
-use Rattle.codec.proofs.unsend.Reads as unsend-reads
-use Rattle.meaning.proofs.is_done.Reads as is-done-reads
 
--- src/lib.rt:163:9
+-- the sheet passed
+passed-at : (c : tie.After-frees) → let start = c .before .before .before .before .before .before .before .before .before .before .before in
+    Passed (start .args .n) (start .args .sheet .now) (start .args .r) (c .before .size-of .result) (c .frees .result)
+passed-at c =
+    let test = c .before .before in
+    passed _ _ _ _ (test .before .before .check-sheet .ensures) _ (test .before .is-done .ensures) (not-false _ (test .if1 .left)) _ _ (c .before .size-of .ensures) (c .frees .ensures)
+
+-- the word passed, too
+read-at : (c : tie.Else2) → let count = c .before .before .before in let start = count .before .before .before .before .before .before .before .before .before .before .before in
+    Read (start .args .n) (start .args .sheet .now) (start .args .r) (count .before .size-of .result) (count .frees .result) (start .args .word .now) (start .args .out .now)
+read-at c =
+    let count = c .before .before .before in
+    reads _ _ _ _ _ (passed-at count) _ _ _ (c .before .before .check-word .ensures) _ (c .before .is-done2 .ensures) (not-false _ (c .if2 .left))
+
 check-sheet-requires : tie.Need-check-sheet-requires
 check-sheet-requires c κs = search needs
 
--- src/lib.rt:164:9
 is-done-requires : tie.Need-is-done-requires
 is-done-requires c κs = search needs
 
--- src/lib.rt:165:9
 returns : tie.Need-returns
-returns c = search needs
+returns c =
+    read-sheet _ _ _ _ (c .before .before .check-sheet .ensures) _ (c .before .is-done .ensures) _ _ (not-true _ (c .if1 .taken))
 
--- src/lib.rt:167:9
 size-of-requires : tie.Need-size-of-requires
-size-of-requires c κs = search needs
+size-of-requires c κs =
+    (passed-good _ _ _ _ (c .before .before .check-sheet .ensures) _ (c .before .is-done .ensures) (not-false _ (c .if1 .left))) .small
 
--- src/lib.rt:168:9
 frees-requires : tie.Need-frees-requires
-frees-requires c κs = search needs
+frees-requires c κs =
+    let test = c .before in
+    (passed-good _ _ _ _ (test .before .before .check-sheet .ensures) _ (test .before .is-done .ensures) (not-false _ (test .if1 .left))) .long ∙ ap (λ (m : ℕ). m * recordBytes) (sym (c .size-of .ensures))
 
--- src/lib.rt:169:50
-sub-check-word : tie.Need-sub-check-word
-sub-check-word c = search needs
+sub-m : tie.Need-sub-m
+sub-m c = (passed-at c) .enough
 
--- src/lib.rt:169:9
 check-word-requires : tie.Need-check-word-requires
 check-word-requires c κs = search needs
 
--- src/lib.rt:170:9
 is-done-requires-2 : tie.Need-is-done-requires-2
 is-done-requires-2 c κs = search needs
 
--- src/lib.rt:171:9
 returns-2 : tie.Need-returns-2
-returns-2 c = search needs
+returns-2 c =
+    let count = c .before .before .before in
+    read-word _ _ _ _ _ (passed-at count) _ _ _ (c .before .before .check-word .ensures) _ (c .before .is-done2 .ensures) (not-true _ (c .if2 .taken))
 
--- src/lib.rt:173:21
-sub-unsend : tie.Need-sub-unsend
-sub-unsend c = search needs
+sub-extract : tie.Need-sub-extract
+sub-extract c = search needs
 
--- src/lib.rt:173:21
-part-unsend-start : tie.Need-part-unsend-start
-part-unsend-start c = search needs
+part-extract-start : tie.Need-part-extract-start
+part-extract-start c = search needs
 
--- src/lib.rt:173:21
-part-unsend-end : tie.Need-part-unsend-end
-part-unsend-end c = search needs
+part-extract-end : tie.Need-part-extract-end
+part-extract-end c =
+    let count = c .before .before .before in
+    omega (arith, (passed-at count) .low, count .before .before .before .before .before .before .before .before .before .before .before .pre .0)
 
--- src/lib.rt:173:5
-unsend-requires : tie.Need-unsend-requires
-unsend-requires c κs = search needs
+sub-extract-2 : tie.Need-sub-extract-2
+sub-extract-2 c = search needs
 
--- src/lib.rt:174:26
-sub-lawful : tie.Need-sub-lawful
-sub-lawful c = search needs
+part-extract-start-2 : tie.Need-part-extract-start-2
+part-extract-start-2 c = search needs
 
--- src/lib.rt:174:26
-part-lawful-start : tie.Need-part-lawful-start
-part-lawful-start c = search needs
+part-extract-end-2 : tie.Need-part-extract-end-2
+part-extract-end-2 c =
+    let count = c .before .before .before .before in
+    omega (arith, (passed-at count) .fits, count .before .before .before .before .before .before .before .before .before .before .before .pre .1)
 
--- src/lib.rt:174:26
-part-lawful-end : tie.Need-part-lawful-end
-part-lawful-end c = search needs
+sub-extract-3 : tie.Need-sub-extract-3
+sub-extract-3 c = search needs
 
--- src/lib.rt:174:39
-sub-lawful-2 : tie.Need-sub-lawful-2
-sub-lawful-2 c = search needs
+part-extract-start-3 : tie.Need-part-extract-start-3
+part-extract-start-3 c = search needs
 
--- src/lib.rt:174:39
-part-lawful-start-2 : tie.Need-part-lawful-start-2
-part-lawful-start-2 c = search needs
+part-extract-end-3 : tie.Need-part-extract-end-3
+part-extract-end-3 c =
+    let count = c .before .before .before .before .before in
+    omega (arith, (passed-at count) .low, count .before .before .before .before .before .before .before .before .before .before .before .pre .2)
 
--- src/lib.rt:174:39
-part-lawful-end-2 : tie.Need-part-lawful-end-2
-part-lawful-end-2 c = search needs
+extract-requires : tie.Need-extract-requires
+extract-requires c κs =
+    let test = c .before .before .before .before in
+    let count = test .before .before .before in
+    let start = count .before .before .before .before .before .before .before .before .before .before .before in
+    let p = passed-at count in
+    let q = read-at test in
+    let lu : length (take (count .before .size-of .result - 0) (start .args .u .now)) ≡ count .before .size-of .result = simp length-take (omega (arith, p .low, start .pre .0)) in
+    let lf : length (take (count .frees .result - 0) (start .args .free .now)) ≡ count .frees .result = simp length-take (omega (arith, p .fits, start .pre .1)) in
+    let lv : length (take (count .before .size-of .result - 0) (start .args .v .now)) ≡ count .before .size-of .result = simp length-take (omega (arith, p .low, start .pre .2)) in
+    ((q .legible _ _ lf lv, lu ∙ p .length-is), (omega arith, q .roomy))
 
--- src/lib.rt:174:56
-sub-lawful-3 : tie.Need-sub-lawful-3
-sub-lawful-3 c = search needs
-
--- src/lib.rt:174:56
-part-lawful-start-3 : tie.Need-part-lawful-start-3
-part-lawful-start-3 c = search needs
-
--- src/lib.rt:174:56
-part-lawful-end-3 : tie.Need-part-lawful-end-3
-part-lawful-end-3 c = search needs
-
--- src/lib.rt:174:9
-lawful-requires : tie.Need-lawful-requires
-lawful-requires c κs = search needs
-
--- src/lib.rt:175:9
 same-length : tie.Need-same-length
 same-length c = search needs
 
--- src/lib.rt:175:9
 same-length-2 : tie.Need-same-length-2
 same-length-2 c = search needs
 
--- src/lib.rt:175:9
 same-length-3 : tie.Need-same-length-3
 same-length-3 c = search needs
 
--- src/lib.rt:175:9
-returns-3 : tie.Need-returns-3
-returns-3 c = search needs
-
--- src/lib.rt:177:13
-sub-m : tie.Need-sub-m
-sub-m c = search needs
-
--- src/lib.rt:178:17
-sub-copy : tie.Need-sub-copy
-sub-copy c = search needs
-
--- src/lib.rt:178:17
-part-copy-start : tie.Need-part-copy-start
-part-copy-start c = search needs
-
--- src/lib.rt:178:17
-part-copy-end : tie.Need-part-copy-end
-part-copy-end c = search needs
-
--- src/lib.rt:178:5
-copy-requires : tie.Need-copy-requires
-copy-requires c κs = search needs
-
--- src/lib.rt:150:1
 same-length-4 : tie.Need-same-length-4
 same-length-4 c = search needs
 
--- src/lib.rt:150:1
+returns-3 : tie.Need-returns-3
+returns-3 c =
+    let call = c .before .before .before .before .before .before .before .before .before in
+    let test = call .before .before .before .before .before in
+    (read-at test) .told _ _ (rw (not-true (call .extract .result) (c .if3 .taken)) at (call .extract .ensures))
+
 same-length-5 : tie.Need-same-length-5
 same-length-5 c = search needs
 
--- src/lib.rt:150:1
 same-length-6 : tie.Need-same-length-6
 same-length-6 c = search needs
 
--- src/lib.rt:150:1
 same-length-7 : tie.Need-same-length-7
 same-length-7 c = search needs
 
--- src/lib.rt:150:1
+same-length-8 : tie.Need-same-length-8
+same-length-8 c = search needs
+
 returns-4 : tie.Need-returns-4
-returns-4 c = search needs
+returns-4 c =
+    let call = c .before .before .before .before .before .before .before .before .before in
+    let test = call .before .before .before .before .before in
+    (read-at test) .told _ _ (rw (not-false (call .extract .result) (c .if3 .left)) at (call .extract .ensures))
 
 pub read-in-spec : {M : Type 1} → statement M
 read-in-spec =
@@ -171,35 +146,27 @@ read-in-spec =
     returns
     size-of-requires
     frees-requires
-    sub-check-word
+    sub-m
     check-word-requires
     is-done-requires-2
     returns-2
-    sub-unsend
-    part-unsend-start
-    part-unsend-end
-    unsend-requires
-    sub-lawful
-    part-lawful-start
-    part-lawful-end
-    sub-lawful-2
-    part-lawful-start-2
-    part-lawful-end-2
-    sub-lawful-3
-    part-lawful-start-3
-    part-lawful-end-3
-    lawful-requires
+    sub-extract
+    part-extract-start
+    part-extract-end
+    sub-extract-2
+    part-extract-start-2
+    part-extract-end-2
+    sub-extract-3
+    part-extract-start-3
+    part-extract-end-3
+    extract-requires
     same-length
     same-length-2
     same-length-3
-    returns-3
-    sub-m
-    sub-copy
-    part-copy-start
-    part-copy-end
-    copy-requires
     same-length-4
+    returns-3
     same-length-5
     same-length-6
     same-length-7
+    same-length-8
     returns-4)

@@ -1,40 +1,27 @@
 use mathlib.Core.Path.{_∙_}
+use borrow.Author.Needs.{needs}
 use Rattle.codec.proofs.Sending.{place-ready, sent}
-use borrow.Author.Needs.{needs}
-use native.Mathlib.Omega.{arith}
-use borrow.Author.Needs.{needs}
 use Rattle.codec.proofs.send.Statement.{statement}
 use Rattle.codec.proofs.send.Tie as tie
-use Rattle.codec.proofs.send.Reads as reads
-use Rattle.codec.proofs.send.Lts as lts
-use Rattle.codec.proofs.rules.place_bits.Reads as place-bits-reads
-use Rattle.codec.proofs.transform.transform.Reads as transform-reads
-use Rattle.codec.proofs.with_check.Reads as with-check-reads
 
--- src/lib.rt:86:5
 with-check-requires : tie.Need-with-check-requires
 with-check-requires c κs = let start = c .before .before .before .before .before in (start .pre .0 .check, (start .pre .0 .bits, start .pre .0 .sum))
 
--- src/lib.rt:87:5
 place-bits-requires : tie.Need-place-bits-requires
 place-bits-requires c κs =
     let check = c .before .before .before .before in
     let start = check .before .before .before .before .before .before in
     place-ready _ _ _ _ _ (start .pre .0) (start .args .x .now) (check .with-check .last .1 .1 .0) (start .pre .1) (check .with-check .kept .1 .1 .0) (check .with-check .ensures)
 
--- src/lib.rt:88:5
 transform-requires : tie.Need-transform-requires
 transform-requires c κs = let place = c .before .before .before in place .place-bits .kept .1 .1 .0 ∙ place .before .before .before .before .before .before .before .before .before .before .before .pre .1
 
--- src/lib.rt:82:1
 same-length : tie.Need-same-length
 same-length c = search needs
 
--- src/lib.rt:82:1
 same-length-2 : tie.Need-same-length-2
 same-length-2 c = search needs
 
--- src/lib.rt:82:1
 returns : tie.Need-returns
 returns c =
     let turn = c .before .before in

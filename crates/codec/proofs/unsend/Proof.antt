@@ -1,27 +1,17 @@
+use borrow.Author.Needs.{needs}
 use Rattle.codec.proofs.Reading.{unsent}
-use borrow.Author.Needs.{needs}
-use native.Mathlib.Omega.{arith}
-use borrow.Author.Needs.{needs}
 use Rattle.codec.proofs.unsend.Statement.{statement}
 use Rattle.codec.proofs.unsend.Tie as tie
-use Rattle.codec.proofs.unsend.Reads as reads
-use Rattle.codec.proofs.unsend.Lts as lts
-use Rattle.bytes.proofs.copy.Reads as copy-reads
-use Rattle.codec.proofs.transform.transform.Reads as transform-reads
 
--- src/lib.rt:132:5
 copy-requires : tie.Need-copy-requires
 copy-requires c κs = search needs
 
--- src/lib.rt:133:5
 transform-requires : tie.Need-transform-requires
 transform-requires c κs = search needs
 
--- src/lib.rt:128:1
 same-length : tie.Need-same-length
 same-length c = search needs
 
--- src/lib.rt:128:1
 returns : tie.Need-returns
 returns c =
     let turn = c .before .before in

@@ -1,53 +1,37 @@
-use Rattle.codec.proofs.Division.{length-small}
-use Rattle.codec.proofs.Sending.{tail-length, checked}
-use borrow.Author.Needs.{needs}
 use native.Mathlib.Omega.{arith}
 use borrow.Author.Needs.{needs}
+use Rattle.codec.proofs.Division.{length-small}
+use Rattle.codec.proofs.Sending.{tail-length, checked}
 use Rattle.codec.proofs.with_check.Statement.{statement}
 use Rattle.codec.proofs.with_check.Tie as tie
-use Rattle.codec.proofs.with_check.Reads as reads
-use Rattle.codec.proofs.with_check.Lts as lts
-use Rattle.bytes.proofs.copy.Reads as copy-reads
-use Rattle.codec.proofs.register.feed.Reads as feed-reads
-use Rattle.codec.proofs.register.flush.Reads as flush-reads
-use Rattle.codec.proofs.register.spell.Reads as spell-reads
 
--- src/lib.rt:75:5
 copy-requires : tie.Need-copy-requires
 copy-requires c κs = search needs
 
--- src/lib.rt:76:29
 feed-requires : tie.Need-feed-requires
 feed-requires c κs = search needs
 
--- src/lib.rt:76:9
 flush-requires : tie.Need-flush-requires
 flush-requires c κs = search needs
 
--- src/lib.rt:78:24
 sub-spell : tie.Need-sub-spell
 sub-spell c = search needs
 
--- src/lib.rt:78:24
 part-spell-start : tie.Need-part-spell-start
 part-spell-start c = search needs
 
--- src/lib.rt:78:24
 part-spell-end : tie.Need-part-spell-end
 part-spell-end c = search needs
 
--- src/lib.rt:78:5
 spell-requires : tie.Need-spell-requires
 spell-requires c κs =
     let copy = c .before .before .before .before .before in
     let start = copy .before .before .before .before in
     omega (arith, tail-length (start .args .payload .now) (start .args .free .now) (copy .copy .last .1 .0) (start .args .r) (copy .copy .ensures .1) (start .pre .1 .1), length-small _ (start .pre .0))
 
--- src/lib.rt:70:1
 same-length : tie.Need-same-length
 same-length c = search needs
 
--- src/lib.rt:70:1
 returns : tie.Need-returns
 returns c =
     let spell = c .before .before in

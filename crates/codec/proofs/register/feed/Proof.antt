@@ -1,20 +1,17 @@
-use lib.Seq.{take-all}
-use Rattle.codec.proofs.Records.{shl-one}
-use mathlib.Core.Path.{_≡_, sym, ap, _∙_}
+use mathlib.Core.Path.{_≡_}
 use mathlib.Core.Logic.{⊎-elim}
 use mathlib.Core.List.{map}
-use Prim.Native.Nat.{ℕ, _-_, _^_, _≤_}
+use Prim.Native.Nat.{_-_, _^_, _≤_}
+use native.Mathlib.Omega.{arith}
+use lib.Seq.{take-all}
 use lib.ListN.{length, take}
+use borrow.Author.Needs.{needs}
 use Rattle.meaning.specs.Answers.{isOne}
+use Rattle.codec.proofs.Records.{shl-one}
 use Rattle.codec.specs.Division.{polyWord, Fed}
 use Rattle.codec.proofs.Division.{divisor, length-small, starts, feed-over, feed-under}
-use borrow.Author.Needs.{needs}
-use native.Mathlib.Omega.{arith}
 use Rattle.codec.proofs.register.feed.Statement.{statement}
 use Rattle.codec.proofs.register.feed.Tie as tie
-use Rattle.codec.proofs.register.feed.Reads as reads
-use Rattle.codec.proofs.register.feed.Lts as lts
-use Rattle.codec.proofs.register.polynomial.Reads as polynomial-reads
 
 abbrev Inv-loop : tie.InvT-loop
 Inv-loop bits r p limit s₀ i₀ s i = (i ≤ length bits) × (p ≡ polyWord r) × (limit ≡ 2 ^ r) × Fed r (map isOne (take i bits)) s
@@ -22,43 +19,33 @@ Inv-loop bits r p limit s₀ i₀ s i = (i ≤ length bits) × (p ≡ polyWord r
 abbrev μ-loop : tie.MeasureT-loop
 μ-loop bits r p limit s₀ i₀ s i = length bits - i
 
--- src/check.rt:29:9
 polynomial-requires : tie.Need-polynomial-requires Inv-loop μ-loop
 polynomial-requires c κs = search needs
 
--- src/check.rt:30:17
 shl-limit : tie.Need-shl-limit Inv-loop μ-loop
 shl-limit c = omega (arith, length-small _ (c .before .before .pre .0))
 
--- src/check.rt:33:5
 loop-holds : tie.Need-loop-holds Inv-loop μ-loop
 loop-holds c = (omega arith, c .polynomial .ensures, shl-one _ (omega (arith, length-small _ (c .before .before .pre .0))), starts _)
 
--- src/check.rt:34:17
 mul-t : tie.Need-mul-t Inv-loop μ-loop
 mul-t c = record { fits = omega (arith, length-small _ (c .before .before .before .before .pre .0), c .before .loop .inv .3 .small) }
 
--- src/check.rt:34:25
 shared-slice-read-t : tie.Need-shared-slice-read-t Inv-loop μ-loop
 shared-slice-read-t c = search needs
 
--- src/check.rt:34:25
 cast-t : tie.Need-cast-t Inv-loop μ-loop
 cast-t c = omega (arith, c .shared-slice-known2 .given (c .before .before .loop .i))
 
--- src/check.rt:34:17
 add-t : tie.Need-add-t Inv-loop μ-loop
 add-t c = record { fits = omega (arith, c .shared-slice-known2 .given (c .before .before .loop .i), length-small _ (c .before .before .before .before .before .pre .0), c .before .before .loop .inv .3 .small) }
 
--- src/check.rt:36:9
 add-i : tie.Need-add-i Inv-loop μ-loop
 add-i c = search needs
 
--- src/check.rt:33:5
 loop-less : tie.Need-loop-less Inv-loop μ-loop
 loop-less c = search needs
 
--- src/check.rt:33:5
 loop-again : tie.Need-loop-again Inv-loop μ-loop
 loop-again c =
     let turn = c .before .before in
@@ -70,7 +57,6 @@ loop-again c =
     (λ w. (omega arith, inv .1, inv .2, rw (w .1) (feed-under _ _ (pre .1) (turn .loop-test .taken) _ _ d (inv .3) (rw (inv .2) at (w .0 .left)))))
     (c .if1 .came)
 
--- src/check.rt:24:1
 returns : tie.Need-returns Inv-loop μ-loop
 returns c = rw (← (take-all (c .before .loop .i) (c .before .before .before .before .args .bits .now) (omega arith))) (c .before .loop .inv .3)
 

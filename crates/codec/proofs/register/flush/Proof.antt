@@ -1,11 +1,11 @@
 use mathlib.Core.Path.{_≡_, subst}
 use mathlib.Core.Logic.{⊎-elim}
 use Prim.Native.Nat.{ℕ, _-_, _^_, _≤_, _<_}
+use native.Mathlib.Omega.{arith}
+use borrow.Author.Needs.{needs}
 use Rattle.codec.specs.Division.{polyWord}
 use Rattle.codec.proofs.Records.{shl-one}
 use Rattle.codec.proofs.Division.{divisor, length-small, Flushed, flush-none, flush-over, flush-under}
-use borrow.Author.Needs.{needs}
-use native.Mathlib.Omega.{arith}
 use Rattle.codec.proofs.register.flush.Statement.{statement}
 use Rattle.codec.proofs.register.flush.Tie as tie
 
@@ -15,33 +15,30 @@ Inv-loop start r p limit s₀ i₀ s i = (i ≤ r) × (p ≡ polyWord r) × (lim
 abbrev μ-loop : tie.MeasureT-loop
 μ-loop start r p limit s₀ i₀ s i = r - i
 
--- src/register.rt:48:9
 polynomial-requires : tie.Need-polynomial-requires Inv-loop μ-loop
 polynomial-requires c κs = search needs
 
--- src/register.rt:49:17
 shl-limit : tie.Need-shl-limit Inv-loop μ-loop
 shl-limit c = omega (arith, length-small _ (c .before .pre .0))
 
--- src/register.rt:52:5
 loop-holds : tie.Need-loop-holds Inv-loop μ-loop
-loop-holds c =
-    (omega arith, c .polynomial .ensures, shl-one _ (omega (arith, length-small _ (c .before .pre .0))), c .before .pre .1,
-    flush-none _ (c .before .args .start))
+loop-holds c = (
+  omega arith,
+  c .polynomial .ensures,
+  shl-one _ (omega (arith, length-small _ (c .before .pre .0))),
+  c .before .pre .1,
+  flush-none _ (c .before .args .start),
+)
 
--- src/register.rt:53:17
 mul-t : tie.Need-mul-t Inv-loop μ-loop
 mul-t c = record { fits = omega (arith, length-small _ (c .before .before .before .pre .0), c .before .loop .inv .3) }
 
--- src/register.rt:55:9
 add-i : tie.Need-add-i Inv-loop μ-loop
 add-i c = search needs
 
--- src/register.rt:52:5
 loop-less : tie.Need-loop-less Inv-loop μ-loop
 loop-less c = search needs
 
--- src/register.rt:52:5
 loop-again : tie.Need-loop-again Inv-loop μ-loop
 loop-again c =
     let turn = c .before in
@@ -54,7 +51,6 @@ loop-again c =
     (λ w. let k = rw (inv .2) at (w .0 .left) in (omega arith, inv .1, inv .2, rw (w .1) k, rw (w .1) (flush-under r (start .args .start) (turn .before .loop .i) _ d (inv .3) (inv .4) k)))
     (c .if1 .came)
 
--- src/register.rt:43:1
 returns : tie.Need-returns Inv-loop μ-loop
 returns c = let e : c .before .loop .i ≡ c .before .before .before .args .r = omega arith in subst (λ (i : ℕ). Flushed (c .before .before .before .args .r) (c .before .before .before .args .start) i (c .before .loop .s)) e (c .before .loop .inv .4)
 

@@ -1,23 +1,16 @@
-use Rattle.codec.specs.Division.{polyWord}
 use borrow.Author.Tests.{ne-eqb}
-use borrow.Author.Needs.{needs}
-use native.Mathlib.Omega.{arith}
+use Rattle.codec.specs.Division.{polyWord}
 use Rattle.codec.proofs.register.polynomial.Statement.{statement}
 use Rattle.codec.proofs.register.polynomial.Tie as tie
-use Rattle.codec.proofs.register.polynomial.Reads as reads
-use Rattle.codec.proofs.register.polynomial.Lts as lts
 
--- src/check.rt:12:1
 returns : tie.Need-returns
 unfolding polyWord
 returns c = rw (c .match .keys1)
 
--- src/check.rt:12:1
 returns-2 : tie.Need-returns-2
 unfolding polyWord
 returns-2 c = rw (c .match .keys2)
 
--- src/check.rt:12:1
 returns-3 : tie.Need-returns-3
 unfolding polyWord
 returns-3 c = rw (ne-eqb (c .before .args .r) 6 (c .match .rest .0 .1), ne-eqb (c .before .args .r) 11 (c .match .rest .1))

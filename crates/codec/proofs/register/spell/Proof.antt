@@ -1,22 +1,18 @@
-use Prim.Native.Nat.{_<_, _/_, _^_}
+use mathlib.Core.Path.{_≡_, refl, sym, _∙_}
+use mathlib.Core.List.{map}
+use Prim.Native.Nat.{_<_, _/_, _^_, _-_, _≤_}
 use native.Mathlib.Nat.{mod-lt}
 use native.Mathlib.Numerals.{add-one}
-use lib.ListN.{length-map, length-set}
-use lib.Seq.{take-suc, take-suc-set, take-all}
-use Rattle.bits.specs.Words.{bitAt}
-use Rattle.codec.proofs.Division.{length-toBits, bits-at}
-use mathlib.Core.Path.{_≡_, refl, sym, ap, _∙_}
-use mathlib.Core.List.{map}
-use Prim.Native.Nat.{ℕ, _-_, _≤_}
-use lib.ListN.{length, take}
-use Rattle.bits.specs.Vectors.{bit}
-use Rattle.codec.specs.Division.{toBits}
-use borrow.Author.Needs.{needs}
 use native.Mathlib.Omega.{arith}
+use lib.ListN.{length-map, length-set, length, take}
+use lib.Seq.{take-suc, take-suc-set, take-all}
+use borrow.Author.Needs.{needs}
+use Rattle.bits.specs.Words.{bitAt}
+use Rattle.bits.specs.Vectors.{bit}
+use Rattle.codec.proofs.Division.{length-toBits, bits-at}
+use Rattle.codec.specs.Division.{toBits}
 use Rattle.codec.proofs.register.spell.Statement.{statement}
 use Rattle.codec.proofs.register.spell.Tie as tie
-use Rattle.codec.proofs.register.spell.Reads as reads
-use Rattle.codec.proofs.register.spell.Lts as lts
 
 abbrev Inv-loop : tie.InvT-loop
 Inv-loop s out₀ r i₀ out i = (i ≤ r) × (r ≡ length out₀) × (length out ≡ r) × (take i out ≡ take i (map bit (toBits r s)))
@@ -24,39 +20,30 @@ Inv-loop s out₀ r i₀ out i = (i ≤ r) × (r ≡ length out₀) × (length o
 abbrev μ-loop : tie.MeasureT-loop
 μ-loop s out₀ r i₀ out i = r - i
 
--- src/check.rt:48:5
 loop-holds : tie.Need-loop-holds Inv-loop μ-loop
 loop-holds c = (omega arith, refl, refl, refl)
 
--- src/check.rt:49:26
 sub-out : tie.Need-sub-out Inv-loop μ-loop
 sub-out c = search needs
 
--- src/check.rt:49:26
 sub-out-2 : tie.Need-sub-out-2 Inv-loop μ-loop
 sub-out-2 c = search needs
 
--- src/check.rt:49:20
 shr-out : tie.Need-shr-out Inv-loop μ-loop
 shr-out c = omega arith
 
--- src/check.rt:49:18
 cast-out : tie.Need-cast-out Inv-loop μ-loop
 cast-out c = record { fits = omega (arith, mod-lt (c .before .before .args .s / 2 ^ (length (c .before .before .args .out .now) - 1 - c .before .loop .i)) {m = 2} (omega arith)) }
 
--- src/check.rt:49:9
 slice-write-out : tie.Need-slice-write-out Inv-loop μ-loop
 slice-write-out c = search needs
 
--- src/check.rt:50:9
 add-i : tie.Need-add-i Inv-loop μ-loop
 add-i c = search needs
 
--- src/check.rt:48:5
 loop-less : tie.Need-loop-less Inv-loop μ-loop
 loop-less c = search needs
 
--- src/check.rt:48:5
 loop-again : tie.Need-loop-again Inv-loop μ-loop
 loop-again c =
     let out = c .before .loop .out in
@@ -67,15 +54,16 @@ loop-again c =
     let bits = map bit (toBits r s) in
     let lb : length bits ≡ r = length-map (toBits r s) bit ∙ length-toBits r s in
     let here : i < length bits = omega arith in
-    let there : i < length out = omega arith in
-    (omega arith, refl, length-set out i _ ∙ inv .2,
-    rw (add-one i, take-suc-set out i (bitAt s (r - 1 - i)), take-suc bits i 0, inv .3, bits-at r s i (omega arith)))
+    let there : i < length out = omega arith in (
+      omega arith,
+      refl,
+      length-set out i _ ∙ inv .2,
+      rw (add-one i, take-suc-set out i (bitAt s (r - 1 - i)), take-suc bits i 0, inv .3, bits-at r s i (omega arith)),
+    )
 
--- src/check.rt:42:1
 same-length : tie.Need-same-length Inv-loop μ-loop
 same-length c = search needs
 
--- src/check.rt:42:1
 returns : tie.Need-returns Inv-loop μ-loop
 returns c =
     let i = c .before .loop .i in

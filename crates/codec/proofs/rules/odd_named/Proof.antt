@@ -1,19 +1,15 @@
-use mathlib.Core.Path.{_≡_, refl, sym, ap, ap₂, _∙_}
-use Prim.Native.Nat.{ℕ, _<_, _≤_, _-_, _+_, _*_}
-use lib.ListN.{length, getD}
+use mathlib.Core.Path.{_≡_, refl, sym, ap₂, _∙_}
+use Prim.Native.Nat.{_<_, _≤_, _-_}
+use native.Mathlib.Omega.{arith}
+use lib.ListN.{getD}
 use lib.Bits.{xor-lt}
+use borrow.Author.Needs.{needs}
 use Rattle.bits.specs.Words.{parityOf}
 use Rattle.meaning.specs.Limits.{recordBytes, maskBytes}
 use Rattle.codec.specs.Packed.{maskOf, held}
 use Rattle.codec.proofs.Packing.{Counting, count-on, count-end, parity-low, mask-unpacked, length-maskOf, maskOf-at}
-use borrow.Author.Needs.{needs}
-use native.Mathlib.Omega.{arith}
 use Rattle.codec.proofs.rules.odd_named.Statement.{statement}
 use Rattle.codec.proofs.rules.odd_named.Tie as tie
-use Rattle.codec.proofs.rules.odd_named.Reads as reads
-use Rattle.codec.proofs.rules.odd_named.Lts as lts
-use Rattle.bits.proofs.parity.Reads as parity-reads
-use Rattle.codec.proofs.rules.wide.Reads as wide-reads
 
 abbrev Inv-loop : tie.InvT-loop
 Inv-loop sheet i values at o₀ k₀ o k = (k ≤ maskBytes) × (o < 2) × Counting 8 (maskOf sheet i) values k o
@@ -21,58 +17,46 @@ Inv-loop sheet i values at o₀ k₀ o k = (k ≤ maskBytes) × (o < 2) × Count
 abbrev μ-loop : tie.MeasureT-loop
 μ-loop sheet i values at o₀ k₀ o k = maskBytes - k
 
--- src/rules.rt:31:14
 mul-at : tie.Need-mul-at Inv-loop μ-loop
 unfolding recordBytes maskBytes
 mul-at c = omega arith
 
--- src/rules.rt:31:14
 add-at : tie.Need-add-at Inv-loop μ-loop
 unfolding recordBytes maskBytes
 add-at c = omega arith
 
--- src/rules.rt:34:5
 loop-holds : tie.Need-loop-holds Inv-loop μ-loop
 loop-holds c = (omega arith, omega arith, refl)
 
--- src/rules.rt:35:41
 add-wide : tie.Need-add-wide Inv-loop μ-loop
 unfolding recordBytes maskBytes
 add-wide c = omega arith
 
--- src/rules.rt:35:35
 shared-slice-read-wide : tie.Need-shared-slice-read-wide Inv-loop μ-loop
 unfolding recordBytes maskBytes
 shared-slice-read-wide c = omega arith
 
--- src/rules.rt:35:30
 wide-requires : tie.Need-wide-requires Inv-loop μ-loop
 wide-requires c κs = search needs
 
--- src/rules.rt:35:56
 shared-slice-read-wide-2 : tie.Need-shared-slice-read-wide-2 Inv-loop μ-loop
 unfolding recordBytes maskBytes
 shared-slice-read-wide-2 c = omega arith
 
--- src/rules.rt:35:51
 wide-requires-2 : tie.Need-wide-requires-2 Inv-loop μ-loop
 wide-requires-2 c κs = search needs
 
--- src/rules.rt:35:17
 parity-requires : tie.Need-parity-requires Inv-loop μ-loop
 parity-requires c κs = search needs
 
--- src/rules.rt:36:9
 add-k : tie.Need-add-k Inv-loop μ-loop
 unfolding recordBytes maskBytes
 add-k c = omega arith
 
--- src/rules.rt:34:5
 loop-less : tie.Need-loop-less Inv-loop μ-loop
 unfolding recordBytes maskBytes
 loop-less c = omega arith
 
--- src/rules.rt:34:5
 loop-again : tie.Need-loop-again Inv-loop μ-loop
 unfolding maskBytes recordBytes
 loop-again c =
@@ -86,11 +70,12 @@ loop-again c =
     let i = start .args .i in
     let vs = start .args .values .now in
     let em : first .wide .result ≡ getD (maskOf s i) k 0 = first .wide .ensures .0 ∙ sym (maskOf-at s i k (turn .loop-test .taken)) in
-    let e : c .parity .result ≡ parityOf (getD (maskOf s i) k 0) (getD vs k 0) = c .parity .ensures ∙ ap₂ parityOf em (second .wide2 .ensures .0) in
-    (omega arith, rw e (xor-lt 1 _ _ (inv .1) (parity-low (getD (maskOf s i) k 0) (getD vs k 0))),
-    rw e (count-on 8 (maskOf s i) vs k _ (omega (arith, length-maskOf s i (start .pre .0))) (omega arith) (rw em at (first .wide .ensures .1)) (inv .1) (inv .2)))
+    let e : c .parity .result ≡ parityOf (getD (maskOf s i) k 0) (getD vs k 0) = c .parity .ensures ∙ ap₂ parityOf em (second .wide2 .ensures .0) in (
+      omega arith,
+      rw e (xor-lt 1 _ _ (inv .1) (parity-low (getD (maskOf s i) k 0) (getD vs k 0))),
+      rw e (count-on 8 (maskOf s i) vs k _ (omega (arith, length-maskOf s i (start .pre .0))) (omega arith) (rw em at (first .wide .ensures .1)) (inv .1) (inv .2)),
+    )
 
--- src/rules.rt:27:1
 returns : tie.Need-returns Inv-loop μ-loop
 unfolding held maskBytes
 returns c =

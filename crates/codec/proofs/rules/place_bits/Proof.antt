@@ -1,27 +1,20 @@
-use mathlib.Core.Path.{_≡_, refl, sym, ap, _∙_}
+use mathlib.Core.Path.{_≡_, refl, sym, _∙_}
 use mathlib.Core.Logic.{⊎-elim}
 use mathlib.Core.List.{map}
-use Prim.Native.Nat.{ℕ, _<_, _-_}
-use lib.ListN.{length, getD, length-map}
-use Rattle.bits.specs.Vectors.{_⊕_}
 use mathlib.Core.Bool.{false}
+use Prim.Native.Nat.{_<_, _-_}
+use native.Mathlib.Omega.{arith}
+use lib.ListN.{length, getD, length-map}
 use lib.Dec.{eqb}
+use Rattle.bits.specs.Vectors.{_⊕_}
 use Rattle.meaning.specs.Limits.{recordBytes, maskBytes}
 use Rattle.meaning.specs.Sheet.{byte, mask}
 use Rattle.meaning.specs.Check.{odd}
-use Rattle.codec.specs.Packed.{held}
 use Rattle.meaning.specs.Answers.{isOne}
-use Rattle.codec.proofs.Division.{is-bit, bit-small, getD-map}
+use Rattle.codec.specs.Packed.{held}
 use Rattle.codec.proofs.Placing.{Placing, starts, free-room, free-goes, frozen-goes, placed, free-bit, small}
-use borrow.Author.Needs.{needs}
-use native.Mathlib.Omega.{arith}
 use Rattle.codec.proofs.rules.place_bits.Statement.{statement}
 use Rattle.codec.proofs.rules.place_bits.Tie as tie
-use Rattle.codec.proofs.rules.place_bits.Reads as reads
-use Rattle.codec.proofs.rules.place_bits.Lts as lts
-use Rattle.codec.proofs.rules.remember.Reads as remember-reads
-use Rattle.codec.proofs.rules.rule_bit.Reads as rule-bit-reads
-use Rattle.codec.proofs.sheet.byte_at.Reads as byte-at-reads
 
 abbrev Inv-loop : tie.InvT-loop
 Inv-loop sheet free u₀ values₀ next₀ i₀ u values next i = Placing sheet (length u₀) (map isOne free) u values next i
@@ -29,73 +22,62 @@ Inv-loop sheet free u₀ values₀ next₀ i₀ u values next i = Placing sheet 
 abbrev μ-loop : tie.MeasureT-loop
 μ-loop sheet free u₀ values₀ next₀ i₀ u values next i = length u₀ - i
 
--- src/rules.rt:67:5
 loop-holds : tie.Need-loop-holds Inv-loop μ-loop
 unfolding maskBytes
 loop-holds c = let start = c .before .before .before in starts (start .args .sheet .now) _ _ (start .args .u .now) refl (length-map (start .args .free .now) isOne ∙ start .pre .1 .1)
 
--- src/rules.rt:69:12
 byte-at-requires : tie.Need-byte-at-requires Inv-loop μ-loop
 unfolding recordBytes maskBytes
 byte-at-requires c κs = omega (arith, c .before .loop .inv .long)
 
--- src/rules.rt:70:17
 shared-slice-read-b : tie.Need-shared-slice-read-b Inv-loop μ-loop
 shared-slice-read-b c =
     let turn = c .before .before .before in
     rw (← (length-map (turn .before .before .before .before .before .args .free .now) isOne))
     (free-room _ _ _ _ _ _ _ (rw (turn .before .loop .inv .long) at (turn .loop-test .taken)) (turn .before .loop .inv) (sym (c .before .before .byte-at .ensures) ∙ c .before .if1 .taken))
 
--- src/rules.rt:71:13
 add-next : tie.Need-add-next Inv-loop μ-loop
 unfolding maskBytes recordBytes
 add-next c = omega (arith, shared-slice-read-b c)
 
--- src/rules.rt:73:36
 slice-aggregate-rule-bit : tie.Need-slice-aggregate-rule-bit Inv-loop μ-loop
 unfolding maskBytes recordBytes
 slice-aggregate-rule-bit c = sym (c .before .before .before .before .loop .inv .wide)
 
--- src/rules.rt:73:13
 rule-bit-requires : tie.Need-rule-bit-requires Inv-loop μ-loop
 unfolding maskBytes recordBytes
 rule-bit-requires c κs = (omega (arith, c .before .before .before .before .loop .inv .long), c .before .before .before .before .loop .inv .wide)
 
--- src/rules.rt:75:9
 slice-write-u : tie.Need-slice-write-u Inv-loop μ-loop
 slice-write-u c = c .before .before .loop-test .taken
 
--- src/rules.rt:76:18
 slice-aggregate-remember : tie.Need-slice-aggregate-remember Inv-loop μ-loop
 unfolding maskBytes recordBytes
 slice-aggregate-remember c = sym (c .before .before .before .before .loop .inv .wide)
 
--- src/rules.rt:76:9
 remember-requires : tie.Need-remember-requires Inv-loop μ-loop
 remember-requires c κs =
     let turn = c .before .before .before in
     let inv = turn .before .loop .inv in
-    let start = turn .before .before .before .before .before in
-    (omega (arith, inv .wide, inv .long, start .pre .0 .1), 
-    ⊎-elim
-    (λ w.
-    let e : byte (start .args .sheet .now) (turn .before .loop .i) 0 ≡ 0 = sym (c .before .before .byte-at .ensures) ∙ w .0 .taken in
-    let h : turn .before .loop .i < length (start .args .u .now) = rw (inv .long) at (turn .loop-test .taken) in
-    small _ (getD (map isOne (start .args .free .now)) (turn .before .loop .next) false) (w .3 ∙ free-bit (start .args .free .now) _ (start .pre .1 .0) (free-room _ _ _ _ _ _ _ h inv e)))
-    (λ w. small _ (eqb (byte (start .args .sheet .now) (turn .before .loop .i) 1) 1 ⊕ odd (mask (start .args .sheet .now) (turn .before .loop .i)) (held (turn .before .loop .values))) (w .4 ∙ w .2 .ensures))
-    (c .before .if1 .came))
+    let start = turn .before .before .before .before .before in (
+      omega (arith, inv .wide, inv .long, start .pre .0 .1),
+      ⊎-elim
+          (λ w.
+          let e : byte (start .args .sheet .now) (turn .before .loop .i) 0 ≡ 0 = sym (c .before .before .byte-at .ensures) ∙ w .0 .taken in
+          let h : turn .before .loop .i < length (start .args .u .now) = rw (inv .long) at (turn .loop-test .taken) in
+          small _ (getD (map isOne (start .args .free .now)) (turn .before .loop .next) false) (w .3 ∙ free-bit (start .args .free .now) _ (start .pre .1 .0) (free-room _ _ _ _ _ _ _ h inv e)))
+          (λ w. small _ (eqb (byte (start .args .sheet .now) (turn .before .loop .i) 1) 1 ⊕ odd (mask (start .args .sheet .now) (turn .before .loop .i)) (held (turn .before .loop .values))) (w .4 ∙ w .2 .ensures))
+          (c .before .if1 .came),
+    )
 
--- src/rules.rt:77:9
 add-i : tie.Need-add-i Inv-loop μ-loop
 unfolding maskBytes recordBytes
 add-i c = omega arith
 
--- src/rules.rt:67:5
 loop-less : tie.Need-loop-less Inv-loop μ-loop
 unfolding maskBytes recordBytes
 loop-less c = omega (arith, c .before .before .before .before .before .before .loop .inv .long)
 
--- src/rules.rt:67:5
 loop-again : tie.Need-loop-again Inv-loop μ-loop
 loop-again c =
     let call = c .before in
@@ -114,11 +96,9 @@ loop-again c =
     (λ w. rw (w .3) (frozen-goes s _ _ _ _ _ _ h inv (start .pre .0 .1) (λ e. w .0 .left (join .before .byte-at .ensures ∙ e)) _ (w .4 ∙ w .2 .ensures)))
     (join .if1 .came))
 
--- src/rules.rt:59:1
 same-length : tie.Need-same-length Inv-loop μ-loop
 same-length c = c .before .loop .inv .long
 
--- src/rules.rt:59:1
 returns : tie.Need-returns Inv-loop μ-loop
 returns c = placed _ _ _ _ _ (c .before .loop .next) (c .before .loop .i) (omega (arith, c .before .loop .inv .long)) (c .before .loop .inv)
 

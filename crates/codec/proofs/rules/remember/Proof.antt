@@ -1,38 +1,29 @@
 use mathlib.Core.Path.{ap}
 use Prim.Native.Nat.{ℕ, _/_, _%_}
 use native.Mathlib.Nat.{mod-eq-of-lt}
+use native.Mathlib.Omega.{arith}
 use lib.ListN.{getD, set}
 use lib.Bits.{bitXor}
+use borrow.Author.Needs.{needs}
 use Rattle.codec.proofs.Packing.{small-shift}
-use borrow.Author.Needs.{needs}
-use native.Mathlib.Omega.{arith}
-use borrow.Author.Needs.{needs}
 use Rattle.codec.proofs.rules.remember.Statement.{statement}
 use Rattle.codec.proofs.rules.remember.Tie as tie
-use Rattle.codec.proofs.rules.remember.Reads as reads
-use Rattle.codec.proofs.rules.remember.Lts as lts
 
--- src/rules.rt:55:21
 slice-read-values : tie.Need-slice-read-values
 slice-read-values c = search needs
 
--- src/rules.rt:55:44
 cast-values : tie.Need-cast-values
 cast-values c = search needs
 
--- src/rules.rt:55:38
 shl-values : tie.Need-shl-values
 shl-values c = search needs
 
--- src/rules.rt:55:5
 slice-write-values : tie.Need-slice-write-values
 slice-write-values c = search needs
 
--- src/rules.rt:51:1
 same-length : tie.Need-same-length
 same-length c = search needs
 
--- src/rules.rt:51:1
 returns : tie.Need-returns
 returns c =
     let start = c .before in

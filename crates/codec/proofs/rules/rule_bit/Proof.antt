@@ -1,38 +1,28 @@
-use Rattle.meaning.specs.Sheet.{mask}
-use Rattle.meaning.specs.Check.{odd}
-use Rattle.codec.specs.Packed.{held}
 use mathlib.Core.Path.{sym, ap, _∙_}
 use Prim.Native.Nat.{ℕ}
+use native.Mathlib.Omega.{arith}
 use lib.Bits.{bitXor}
 use borrow.Author.Tests.{eq-eqb, ne-eqb}
+use Rattle.meaning.specs.Sheet.{mask}
+use Rattle.meaning.specs.Check.{odd}
 use Rattle.meaning.specs.Limits.{recordBytes, maskBytes}
+use Rattle.codec.specs.Packed.{held}
 use Rattle.codec.proofs.Packing.{flipped}
-use borrow.Author.Needs.{needs}
-use native.Mathlib.Omega.{arith}
-use borrow.Author.Needs.{needs}
 use Rattle.codec.proofs.rules.rule_bit.Statement.{statement}
 use Rattle.codec.proofs.rules.rule_bit.Tie as tie
-use Rattle.codec.proofs.rules.rule_bit.Reads as reads
-use Rattle.codec.proofs.rules.rule_bit.Lts as lts
-use Rattle.codec.proofs.rules.odd_named.Reads as odd-named-reads
-use Rattle.codec.proofs.sheet.byte_at.Reads as byte-at-reads
 
--- src/rules.rt:46:9
 odd-named-requires : tie.Need-odd-named-requires
 odd-named-requires c κs = c .before .before .pre
 
--- src/rules.rt:47:8
 byte-at-requires : tie.Need-byte-at-requires
 unfolding recordBytes maskBytes
 byte-at-requires c κs = omega arith
 
--- src/rules.rt:42:1
 returns : tie.Need-returns
 returns c =
     let start = c .before .before .before .before .before in
     rw (eq-eqb _ 1 (sym (c .before .byte-at .ensures) ∙ c .if1 .taken)) (ap (λ (x : ℕ). bitXor x 1) (c .before .before .odd-named .ensures) ∙ flipped (odd (mask (start .args .sheet .now) (start .args .i)) (held (start .args .values .now))))
 
--- src/rules.rt:42:1
 returns-2 : tie.Need-returns-2
 returns-2 c = rw (ne-eqb _ 1 (λ e. c .if1 .left (c .before .byte-at .ensures ∙ e))) (c .before .before .odd-named .ensures)
 

@@ -1,16 +1,12 @@
-use mathlib.Core.Path.{_≡_, refl, sym, ap, _∙_}
+use mathlib.Core.Path.{_≡_, refl, sym, _∙_}
 use mathlib.Core.Logic.{⊎-elim}
 use Prim.Native.Nat.{_-_}
+use native.Mathlib.Omega.{arith}
 use lib.ListN.{length, length-set}
 use Rattle.meaning.specs.Limits.{recordBytes, maskBytes}
 use Rattle.codec.proofs.Placing.{Taking, take-room, free-taken, frozen-passed, taken}
-use borrow.Author.Needs.{needs}
-use native.Mathlib.Omega.{arith}
 use Rattle.codec.proofs.rules.take_free.Statement.{statement}
 use Rattle.codec.proofs.rules.take_free.Tie as tie
-use Rattle.codec.proofs.rules.take_free.Reads as reads
-use Rattle.codec.proofs.rules.take_free.Lts as lts
-use Rattle.codec.proofs.sheet.byte_at.Reads as byte-at-reads
 
 abbrev Inv-loop : tie.InvT-loop
 Inv-loop sheet u free₀ next₀ i₀ free next i = (length free ≡ length free₀) × Taking sheet (length u) u free next i
@@ -18,41 +14,33 @@ Inv-loop sheet u free₀ next₀ i₀ free next i = (length free ≡ length free
 abbrev μ-loop : tie.MeasureT-loop
 μ-loop sheet u free₀ next₀ i₀ free next i = length u - i
 
--- src/rules.rt:80:5
 loop-holds : tie.Need-loop-holds Inv-loop μ-loop
 loop-holds c = (refl, record { low = omega arith; room = let e = c .before .before .before .pre .1 in omega arith; left = refl })
 
--- src/rules.rt:81:12
 byte-at-requires : tie.Need-byte-at-requires Inv-loop μ-loop
 unfolding recordBytes maskBytes
 byte-at-requires c κs = omega arith
 
--- src/rules.rt:82:26
 shared-slice-read-free : tie.Need-shared-slice-read-free Inv-loop μ-loop
 shared-slice-read-free c = c .before .before .before .loop-test .taken
 
--- src/rules.rt:82:13
 slice-write-free : tie.Need-slice-write-free Inv-loop μ-loop
-slice-write-free c = 
+slice-write-free c =
     let turn = c .before .before .before in
     let start = turn .before .before .before .before .before in
     take-room _ _ _ refl (start .pre .0 .1) _ _ _ (turn .loop-test .taken) (turn .before .loop .inv .1) (sym (c .before .before .byte-at .ensures) ∙ c .before .if1 .taken)
 
--- src/rules.rt:83:13
 add-next : tie.Need-add-next Inv-loop μ-loop
 add-next c = omega (arith, slice-write-free c)
 
--- src/rules.rt:85:9
 add-i : tie.Need-add-i Inv-loop μ-loop
 add-i c = omega arith
 
--- src/rules.rt:80:5
 loop-less : tie.Need-loop-less Inv-loop μ-loop
 loop-less c = omega arith
 
--- src/rules.rt:80:5
 loop-again : tie.Need-loop-again Inv-loop μ-loop
-loop-again c = 
+loop-again c =
     let turn = c .before .before in
     let start = turn .before .before .before .before .before in
     let inv = turn .before .loop .inv in
@@ -63,11 +51,9 @@ loop-again c =
     (λ w. (rw (w .1) (inv .0), rw (w .1, w .2) (frozen-passed _ _ _ refl (start .pre .0 .1) _ _ _ (turn .loop-test .taken) (inv .1) (λ e. w .0 .left (c .before .byte-at .ensures ∙ e)))))
     (c .if1 .came)
 
--- src/rules.rt:73:1
 same-length : tie.Need-same-length Inv-loop μ-loop
 same-length c = c .before .loop .inv .0
 
--- src/rules.rt:73:1
 returns : tie.Need-returns Inv-loop μ-loop
 returns c = taken _ _ _ _ (c .before .loop .next) (c .before .loop .i) (c .loop-test .left) (c .before .loop .inv .1)
 

@@ -1,9 +1,6 @@
-use Rattle.codec.proofs.Records.{shl-one}
-use Prim.Native.Nat.{_^_}
-use native.Mathlib.Nat.{one-mul, mod-eq-of-lt}
 use native.Mathlib.Omega.{arith}
-use lib.Pow.{pow-lt}
 use Rattle.meaning.specs.Limits.{largestN}
+use Rattle.codec.proofs.Records.{shl-one}
 use Rattle.codec.proofs.sheet.size_of.Statement.{statement}
 use Rattle.codec.proofs.sheet.size_of.Tie as tie
 

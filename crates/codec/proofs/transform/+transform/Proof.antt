@@ -1,20 +1,19 @@
-use mathlib.Core.Path.{_≡_, refl, sym, ap, _∙_}
-use mathlib.Core.List.{_++_}
+use mathlib.Core.Path.{_≡_, refl, ap, _∙_}
+use Prim.Native.Nat.{ℕ, _<_, _-_, _/_}
+use native.Mathlib.Omega.{arith}
 use lib.ListN.{length, drop, length-take, length-drop, length-append}
 use lib.Seq.{length-take-le}
-use Rattle.codec.specs.Bytes.{folded, polarBytes}
-use Rattle.codec.proofs.Transforming.{two-pow, half, rest, whole, join, bytes-zero}
 use borrow.Author.Needs.{needs}
-use native.Mathlib.Omega.{arith}
-use Prim.Native.Nat.{ℕ, _<_, _-_, _/_}
 use borrow.Fn.Kinds.{In}
 use borrow.Fn.PlainCycle.{Measures, is, falls, and}
+use Rattle.codec.specs.Bytes.{folded, polarBytes}
+use Rattle.codec.proofs.Transforming.{two-pow, half, rest, whole, join, bytes-zero}
+use Rattle.codec.proofs.transform.+transform.{statement}
+use Rattle.codec.proofs.transform.+transform.Tie.{close}
 use Rattle.codec.proofs.transform.transform.Reads as transform
 use Rattle.codec.proofs.transform.transform.Kinds as transform-kinds
 use Rattle.codec.proofs.transform.+transform.Lts-transform as transform-lts
 use Rattle.codec.proofs.transform.fold.Reads as fold-reads
-use Rattle.codec.proofs.transform.+transform.{statement}
-use Rattle.codec.proofs.transform.+transform.Tie.{close}
 
 abbrev μ-transform : Measures 1 transform-kinds.ps ℕ
 μ-transform κs a = a .1 .0
@@ -26,7 +25,6 @@ abbrev transform-below : ℕ → In 1 transform-kinds.ps
 transform-below t =
     and 1 transform-kinds.ps (falls 1 transform-kinds.ps _<_ μ-transform t) transform.Pre
 
--- src/transform.rt:26:19
 transform-slice-relend-prefix-transform :
     (t : ℕ) → transform-lts.Need-slice-relend-prefix-transform (
       transform-below t,
@@ -36,7 +34,6 @@ transform-slice-relend-prefix-transform :
     ) (transform-at t) transform.Post
 transform-slice-relend-prefix-transform t c = search needs
 
--- src/transform.rt:26:19
 transform-slice-aggregate-transform : (t : ℕ) → transform-lts.Need-slice-aggregate-transform (
   transform-below t,
   transform.Post,
@@ -45,7 +42,6 @@ transform-slice-aggregate-transform : (t : ℕ) → transform-lts.Need-slice-agg
 ) (transform-at t) transform.Post
 transform-slice-aggregate-transform t c = simp length-take (omega arith)
 
--- src/transform.rt:26:32
 transform-sub-transform : (t : ℕ) → transform-lts.Need-sub-transform (
   transform-below t,
   transform.Post,
@@ -54,7 +50,6 @@ transform-sub-transform : (t : ℕ) → transform-lts.Need-sub-transform (
 ) (transform-at t) transform.Post
 transform-sub-transform t c = search needs
 
--- src/transform.rt:26:9
 transform-transform-requires : (t : ℕ) → transform-lts.Need-transform-requires (
   transform-below t,
   transform.Post,
@@ -67,7 +62,6 @@ transform-transform-requires t c κs =
     let q = half (S .args .s .now) (S .args .n) p (S .pre .1) in
     (omega arith, simp length-take (omega arith))
 
--- src/transform.rt:27:19
 transform-sub-transform-2 : (t : ℕ) → transform-lts.Need-sub-transform-2 (
   transform-below t,
   transform.Post,
@@ -76,7 +70,6 @@ transform-sub-transform-2 : (t : ℕ) → transform-lts.Need-sub-transform-2 (
 ) (transform-at t) transform.Post
 transform-sub-transform-2 t c = search needs
 
--- src/transform.rt:27:19
 transform-part-transform-start : (t : ℕ) → transform-lts.Need-part-transform-start (
   transform-below t,
   transform.Post,
@@ -85,7 +78,6 @@ transform-part-transform-start : (t : ℕ) → transform-lts.Need-part-transform
 ) (transform-at t) transform.Post
 transform-part-transform-start t c = search needs
 
--- src/transform.rt:27:19
 transform-part-transform-end : (t : ℕ) → transform-lts.Need-part-transform-end (
   transform-below t,
   transform.Post,
@@ -94,7 +86,6 @@ transform-part-transform-end : (t : ℕ) → transform-lts.Need-part-transform-e
 ) (transform-at t) transform.Post
 transform-part-transform-end t c = search needs
 
--- src/transform.rt:27:32
 transform-sub-transform-3 : (t : ℕ) → transform-lts.Need-sub-transform-3 (
   transform-below t,
   transform.Post,
@@ -103,7 +94,6 @@ transform-sub-transform-3 : (t : ℕ) → transform-lts.Need-sub-transform-3 (
 ) (transform-at t) transform.Post
 transform-sub-transform-3 t c = search needs
 
--- src/transform.rt:27:9
 transform-transform-requires-2 : (t : ℕ) → transform-lts.Need-transform-requires-2 (
   transform-below t,
   transform.Post,
@@ -118,7 +108,6 @@ transform-transform-requires-2 t c κs =
     c .before .before .before .transform .kept .0 ∙ length-take-le (length l / 2) l (omega arith) in
     (omega arith, rw (rest l (c .before .before .before .transform .last .0) (length l / 2) la (omega arith), length-drop) (omega (arith, two-pow (S .args .n) p)))
 
--- src/transform.rt:28:9
 transform-fold-requires : (t : ℕ) → transform-lts.Need-fold-requires (
   transform-below t,
   transform.Post,
@@ -136,7 +125,6 @@ transform-fold-requires t c κs =
     let tp = two-pow (T .before .before .before .before .args .n) (T .before .before .if1 .taken) in
     rw (whole l a (length l / 2) la (omega arith) b, length-append) (omega (arith, T .before .before .before .before .pre .1))
 
--- src/transform.rt:20:1
 transform-same-length : (t : ℕ) → transform-lts.Need-same-length (
   transform-below t,
   transform.Post,
@@ -145,7 +133,6 @@ transform-same-length : (t : ℕ) → transform-lts.Need-same-length (
 ) (transform-at t) transform.Post
 transform-same-length t c = search needs
 
--- src/transform.rt:20:1
 transform-returns : (t : ℕ) → transform-lts.Need-returns (
   transform-below t,
   transform.Post,
@@ -166,7 +153,6 @@ transform-returns t c =
     ∙ ap (folded h) (whole l a h la (omega arith) b)
     ∙ join l a b (S .args .n) h (T .before .before .if1 .taken) (S .pre .1) refl la (T .transform .ensures) eb
 
--- src/transform.rt:20:1
 transform-returns-2 : (t : ℕ) → transform-lts.Need-returns-2 (
   transform-below t,
   transform.Post,

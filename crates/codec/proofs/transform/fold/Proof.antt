@@ -1,11 +1,9 @@
 use Prim.Native.Nat.{_-_}
-use Rattle.codec.proofs.Transforming.{Folded, fold-step, fold-end}
-use borrow.Author.Needs.{needs}
 use native.Mathlib.Omega.{arith}
+use borrow.Author.Needs.{needs}
+use Rattle.codec.proofs.Transforming.{Folded, fold-step, fold-end}
 use Rattle.codec.proofs.transform.fold.Statement.{statement}
 use Rattle.codec.proofs.transform.fold.Tie as tie
-use Rattle.codec.proofs.transform.fold.Reads as reads
-use Rattle.codec.proofs.transform.fold.Lts as lts
 
 abbrev Inv-loop : tie.InvT-loop
 Inv-loop s₀ h i₀ s i = Folded s₀ h s i
@@ -13,46 +11,36 @@ Inv-loop s₀ h i₀ s i = Folded s₀ h s i
 abbrev μ-loop : tie.MeasureT-loop
 μ-loop s₀ h i₀ s i = h - i
 
--- src/transform.rt:13:5
 loop-holds : tie.Need-loop-holds Inv-loop μ-loop
 loop-holds c = search needs
 
--- src/transform.rt:14:16
 slice-read-s : tie.Need-slice-read-s Inv-loop μ-loop
 slice-read-s c = search needs
 
--- src/transform.rt:14:25
 add-s : tie.Need-add-s Inv-loop μ-loop
 add-s c = search needs
 
--- src/transform.rt:14:23
 slice-read-s-2 : tie.Need-slice-read-s-2 Inv-loop μ-loop
 slice-read-s-2 c = search needs
 
--- src/transform.rt:14:9
 slice-write-s : tie.Need-slice-write-s Inv-loop μ-loop
 slice-write-s c = search needs
 
--- src/transform.rt:15:9
 add-i : tie.Need-add-i Inv-loop μ-loop
 add-i c = search needs
 
--- src/transform.rt:13:5
 loop-less : tie.Need-loop-less Inv-loop μ-loop
 loop-less c = search needs
 
--- src/transform.rt:13:5
 loop-again : tie.Need-loop-again Inv-loop μ-loop
 loop-again c =
     let start = c .before .before .before .before in
     let head = c .before .before .before in
     fold-step (start .args .s .now) (start .args .h) (start .pre) (head .loop .s) (head .loop .i) (omega arith) (head .loop .inv)
 
--- src/transform.rt:8:1
 same-length : tie.Need-same-length Inv-loop μ-loop
 same-length c = search needs
 
--- src/transform.rt:8:1
 returns : tie.Need-returns Inv-loop μ-loop
 returns c = fold-end (c .before .before .args .s .now) (c .before .before .args .h) (c .before .before .pre) (c .before .loop .s) (c .before .loop .i) (omega arith) (c .before .loop .inv)
 

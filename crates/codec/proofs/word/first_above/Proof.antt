@@ -1,13 +1,10 @@
-use mathlib.Core.Path.{refl}
 use Prim.Native.Nat.{_≤_, _-_}
-use lib.ListN.{length}
-use Rattle.codec.proofs.Wording.{Left, found, passed, none-found}
-use borrow.Author.Needs.{needs}
 use native.Mathlib.Omega.{arith}
+use lib.ListN.{length}
+use borrow.Author.Needs.{needs}
+use Rattle.codec.proofs.Wording.{Left, found, passed, none-found}
 use Rattle.codec.proofs.word.first_above.Statement.{statement}
 use Rattle.codec.proofs.word.first_above.Tie as tie
-use Rattle.codec.proofs.word.first_above.Reads as reads
-use Rattle.codec.proofs.word.first_above.Lts as lts
 
 abbrev Inv-loop : tie.InvT-loop
 Inv-loop word top i₀ i = (i ≤ length word) × Left word top i i
@@ -15,31 +12,24 @@ Inv-loop word top i₀ i = (i ≤ length word) × Left word top i i
 abbrev μ-loop : tie.MeasureT-loop
 μ-loop word top i₀ i = length word - i
 
--- src/word.rt:11:5
 loop-holds : tie.Need-loop-holds Inv-loop μ-loop
 loop-holds c = (omega arith, omega arith)
 
--- src/word.rt:12:12
 shared-slice-read-if1 : tie.Need-shared-slice-read-if1 Inv-loop μ-loop
 shared-slice-read-if1 c = search needs
 
--- src/word.rt:13:13
 returns : tie.Need-returns Inv-loop μ-loop
 returns c = let turn = c .before .before in found _ _ _ (turn .loop-test .taken) (c .if1 .taken) (turn .before .loop .inv .1)
 
--- src/word.rt:15:9
 add-i : tie.Need-add-i Inv-loop μ-loop
 add-i c = search needs
 
--- src/word.rt:11:5
 loop-less : tie.Need-loop-less Inv-loop μ-loop
 loop-less c = search needs
 
--- src/word.rt:11:5
 loop-again : tie.Need-loop-again Inv-loop μ-loop
 loop-again c = let turn = c .before .before in (omega arith, passed _ _ _ (turn .loop-test .taken) (c .if1 .left) (turn .before .loop .inv .1))
 
--- src/word.rt:7:1
 returns-2 : tie.Need-returns-2 Inv-loop μ-loop
 returns-2 c = none-found _ _ _ (c .loop-test .left) (c .before .loop .inv .1)
 
