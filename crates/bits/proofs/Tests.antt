@@ -1,6 +1,8 @@
 -- Tests over lists: `filter`, `any`, `all`, `count`, `tab`.
+--     all-at, at-all               all of a list, by index
+--     not-both, eq-or-ne, le-or-lt     one or the other: two tests, two numbers
 use mathlib.Core.Path.{_≡_, refl, sym, ap, ap₂, _∙_}
-use mathlib.Core.Logic.{⊎-elim}
+use mathlib.Core.Logic.{_⊎_, inl, inr, ⊎-elim}
 use Prim.Native.Nat.{ℕ, zero, suc, _+_, _≤_, _<_}
 use native.Mathlib.Omega.{arith}
 use native.Mathlib.Nat.{zero-add, suc-add}
@@ -217,3 +219,35 @@ module _ {A : Type 0} (p : A → Bool) where
       go true e i f q = absurd (omega arith)
       go false e zero f q = e
       go false e (suc i) f q = f i (omega arith)
+
+-- ---- by index
+
+module _ {A : Type 0} (p : A → Bool) (d : A) where
+  pub all-at : (l : List A) → all p l ≡ true → (i : ℕ) → i < length l → p (getD l i d) ≡ true
+  all-at [] h i k = absurd (omega arith)
+  all-at (a ∷ l) h zero k = and-l (p a) (all p l) h
+  all-at (a ∷ l) h (suc i) k = all-at l (and-r (p a) (all p l) h) i (omega arith)
+
+  pub at-all : (l : List A) → ((i : ℕ) → i < length l → p (getD l i d) ≡ true) → all p l ≡ true
+  at-all [] h = refl
+  at-all (a ∷ l) h = and-i (p a) (all p l) (h zero (omega arith)) (at-all l (λ i k. h (suc i) (omega arith)))
+
+pub count-none : {A : Type 0} (l : List A) → count (λ (a : A). false) l ≡ 0
+count-none [] = refl
+count-none (x ∷ l) = omega (arith, count-none l)
+
+-- ---- one or the other
+
+pub not-both : {a : Bool} → a ≡ true → a ≡ false → ⊥
+not-both p q = true≢false (sym p ∙ q)
+
+pub eq-or-ne : (a b : ℕ) → (a ≡ b) ⊎ (a ≡ b → ⊥)
+eq-or-ne zero zero = inl refl
+eq-or-ne zero (suc b) = inr (λ h. omega arith)
+eq-or-ne (suc a) zero = inr (λ h. omega arith)
+eq-or-ne (suc a) (suc b) = ⊎-elim (λ q. inl (ap suc q)) (λ n. inr (λ h. n (omega arith))) (eq-or-ne a b)
+
+pub le-or-lt : (a b : ℕ) → (a ≤ b) ⊎ (b < a)
+le-or-lt zero b = inl (omega arith)
+le-or-lt (suc a) zero = inr (omega arith)
+le-or-lt (suc a) (suc b) = ⊎-elim (λ q. inl (omega arith)) (λ q. inr (omega arith)) (le-or-lt a b)

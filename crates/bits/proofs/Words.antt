@@ -11,12 +11,12 @@ use lib.Count.{ones, ones-step}
 use Rattle.bits.specs.Words.{parityOf, bitAt}
 
 -- what holds of both bits holds of a % 2
-bit-cases : (P : ℕ → Type 0) → P 0 → P 1 → (x : ℕ) → x < 2 → P x
+pub bit-cases : (P : ℕ → Type 0) → P 0 → P 1 → (x : ℕ) → x < 2 → P x
 bit-cases P p q zero h = p
 bit-cases P p q (suc zero) h = q
 bit-cases P p q (suc (suc x)) h = absurd (omega arith)
 
-mod-two : (a : ℕ) → a % 2 < 2
+pub mod-two : (a : ℕ) → a % 2 < 2
 mod-two a = omega arith
 
 -- two numbers with the same half and the same lowest bit
@@ -26,13 +26,13 @@ same a b h m = omega arith
 xor-half : (a b : ℕ) → bitXor a b / 2 ≡ bitXor (a / 2) (b / 2)
 xor-half a b = xor-shr a b 1
 
-and-half : (a b : ℕ) → bitAnd a b / 2 ≡ bitAnd (a / 2) (b / 2)
+pub and-half : (a b : ℕ) → bitAnd a b / 2 ≡ bitAnd (a / 2) (b / 2)
 and-half a b = and-shr a b 1
 
 xor-low : (a b : ℕ) → bitXor a b % 2 ≡ bitXor (a % 2) (b % 2)
 xor-low a b = xor-mod a b 1
 
-and-low : (a b : ℕ) → bitAnd a b % 2 ≡ bitAnd (a % 2) (b % 2)
+pub and-low : (a b : ℕ) → bitAnd a b % 2 ≡ bitAnd (a % 2) (b % 2)
 and-low a b = and-mod a b 1
 
 le-zero : (a : ℕ) → a ≤ 0 → a ≡ 0

@@ -5,6 +5,7 @@
 --     filter, any, all, count, tab     lists of anything
 --     firstPlace p l         the place of the first that passes
 --     ones, zeros, same      how many bits are 1; none is 1; two vectors are equal
+--     odd m u                an odd number of the places that m names hold 1 in u
 use Prim.Native.Nat.{ℕ, zero, suc, _+_}
 use mathlib.Core.Path.{_≡_}
 use mathlib.Core.Bool.{Bool, true, false, _&&_, _||_, not}
@@ -111,3 +112,9 @@ zeros v = all not v
 -- whether two vectors of one length are equal
 abbrev pub same : List Bool → List Bool → Bool
 same a b = zeros (a ⊞ b)
+
+-- whether an odd number of the named places hold 1
+abbrev pub odd : List Bool → List Bool → Bool
+odd [] u = false
+odd (m ∷ ms) [] = false
+odd (m ∷ ms) (b ∷ u) = (m && b) ⊕ odd ms u

@@ -6,7 +6,7 @@ use mathlib.Core.Path.{_≡_, refl, sym, ap, ap₂, _∙_, subst}
 use mathlib.Core.Logic.{_⊎_, ⊎-elim}
 use Prim.Native.Nat.{ℕ, zero, suc, _+_, _-_, _*_, _/_, _%_, _^_, _<_, _≤_}
 use native.Mathlib.Omega.{arith}
-use native.Mathlib.Nat.{pow-suc, div-one, mod-lt, div-div-eq-div-mul, div-eq-of-lt, div-eq-of-lt-le, zero-div}
+use native.Mathlib.Nat.{pow-suc, div-one, mod-lt, div-eq-of-lt, div-eq-of-lt-le, zero-div}
 use native.Mathlib.Numerals.{add-one}
 use native.Mathlib.Decide.{decLt}
 use mathlib.Core.Bool.{Bool, true, false, _&&_, not}
@@ -21,6 +21,7 @@ use Rattle.bits.specs.Vectors.{_⊕_, _⊞_, bit, zeros}
 use Rattle.bits.specs.Words.{bitAt}
 use Rattle.bits.proofs.Xor.{⊞-none}
 use Rattle.bits.proofs.Words.{bit-xor}
+use Rattle.bits.proofs.WordBits.{bit-suc}
 use Rattle.meaning.specs.Limits.{leads}
 use Rattle.meaning.specs.Check.{poly, shift, rest, divides}
 use Rattle.meaning.specs.Payload.{remainder}
@@ -62,9 +63,6 @@ below s false = omega arith
 lowest : (s : ℕ) (b : Bool) → eqb ((s * 2 + bit b) % 2) 1 ≡ b
 lowest s true = eq-eqb ((s * 2 + 1) % 2) 1 (omega arith)
 lowest s false = ne-eqb ((s * 2 + 0) % 2) 1 (λ e. omega arith)
-
-pub bit-suc : (t r : ℕ) → bitAt t (suc r) ≡ bitAt (t / 2) r
-bit-suc t r = ap (λ (x : ℕ). x % 2) (ap (λ (x : ℕ). t / x) (pow-suc 2 r ∙ omega arith) ∙ sym (div-div-eq-div-mul t 2 (2 ^ r)))
 
 toBits-put : (r s : ℕ) (b : Bool) → toBits (suc r) (s * 2 + bit b) ≡ toBits r s ++ (b ∷ [])
 unfolding toBits

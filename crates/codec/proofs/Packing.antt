@@ -7,7 +7,7 @@
 use mathlib.Core.Path.{_≡_, refl, sym, ap, ap₂, _∙_}
 use Prim.Native.Nat.{ℕ, zero, suc, _+_, _*_, _/_, _%_, _^_, _<_, _≤_}
 use native.Mathlib.Omega.{arith}
-use native.Mathlib.Nat.{suc-inj, pow-suc, div-one, mod-lt, zero-div, zero-mul, one-mul}
+use native.Mathlib.Nat.{suc-inj, div-one, mod-lt, zero-div, zero-mul, one-mul}
 use native.Mathlib.Decide.{decLt, ℕ-discrete}
 use native.Mathlib.Numerals.{add-one}
 use mathlib.Core.Bool.{Bool, true, false, _&&_}
@@ -15,57 +15,34 @@ use mathlib.Core.List.{List, [], _∷_, _++_}
 use lib.ListN.{length, drop, getD, set, length-take, length-drop, drop-of-length-le, length-append, length-set, replicate}
 use lib.Seq.{drop-cons, getD-take, getD-drop, getD-set-same, getD-set-other, getD-append-seam}
 use lib.Dec.{eqb, eqb·suc-suc}
-use lib.Bits.{bitAnd, bitXor, and-zero-l, and-shr, and-mod, shifted-even, shifted-half}
+use lib.Bits.{bitAnd, bitXor, shifted-even, shifted-half}
 use lib.Pow.{pow-lt}
-use lib.Count.{ones, ones-step}
+use lib.Count.{ones}
 use borrow.Author.Tests.{eq-eqb, ne-eqb, eqb-false}
-use Rattle.bits.specs.Vectors.{_⊕_, bit, pick, tab}
-use Rattle.bits.specs.Words.{bitAt, parityOf}
+use Rattle.bits.specs.Vectors.{_⊕_, bit, pick, tab, odd}
+use Rattle.bits.specs.Words.{bitAt, parityOf, wordBits}
 use Rattle.bits.proofs.Xor.{⊕-assoc, ⊕-false}
-use Rattle.bits.proofs.Tests.{length-tab, tab-at, tab-below, tab-ext, tab-append}
+use Rattle.bits.proofs.Tests.{tab-at, tab-below, tab-ext, tab-append}
 use Rattle.bits.proofs.Words.{bit-xor}
+use Rattle.bits.proofs.WordBits.{length-wordBits, odd-wordBits, wordBits-tab, bit-suc}
 use Rattle.meaning.specs.Limits.{maskBytes, recordBytes}
 use Rattle.meaning.specs.Sheet.{names, mask}
-use Rattle.meaning.specs.Check.{odd}
 use Rattle.meaning.specs.Answers.{isOne}
-use Rattle.codec.specs.Packed.{bitsOf, unpacked, held, Holds, maskOf}
-use Rattle.codec.proofs.Division.{bit-suc}
+use Rattle.codec.specs.Packed.{unpacked, held, Holds, maskOf}
 
 -- ---- two words
 
-bits-suc : (w a : ℕ) → bitsOf (suc w) a ≡ eqb (a % 2) 1 ∷ bitsOf w (a / 2)
-bits-suc w a = ap₂ {C = List Bool} _∷_ (ap (λ (x : ℕ). eqb (x % 2) 1) (div-one a)) (tab-ext w _ _ (λ j. ap (λ (x : ℕ). eqb x 1) (bit-suc a j)))
-
-and-bit : (x y : ℕ) → x < 2 → y < 2 → bit (eqb x 1 && eqb y 1) ≡ bitAnd x y
-and-bit zero zero p q = refl
-and-bit zero (suc zero) p q = refl
-and-bit (suc zero) zero p q = refl
-and-bit (suc zero) (suc zero) p q = refl
-and-bit zero (suc (suc y)) p q = absurd (omega arith)
-and-bit (suc zero) (suc (suc y)) p q = absurd (omega arith)
-and-bit (suc (suc x)) y p q = absurd (omega arith)
-
-sum-bit : (p q : Bool) → (bit p + bit q) % 2 ≡ bit (p ⊕ q)
-sum-bit true true = refl
-sum-bit true false = refl
-sum-bit false true = refl
-sum-bit false false = refl
-
--- the parity of common ones is that of the named bits
-pub parity-bits : (w a b : ℕ) → a < 2 ^ w → parityOf a b ≡ bit (odd (bitsOf w a) (bitsOf w b))
-unfolding ones
-parity-bits zero a b h = let e : a ≡ 0 = omega arith in ap (λ (x : ℕ). parityOf x b) e ∙ ap (λ (x : ℕ). ones x % 2) (and-zero-l b)
-parity-bits (suc w) a b h =
-    let A : Bool = eqb (a % 2) 1 && eqb (b % 2) 1 in
-    let o : Bool = odd (bitsOf w (a / 2)) (bitsOf w (b / 2)) in
-    let ih : parityOf (a / 2) (b / 2) ≡ bit o = parity-bits w (a / 2) (b / 2) (omega (arith, pow-suc 2 w)) in
-    let low : bitAnd a b % 2 ≡ bit A = and-mod a b 1 ∙ sym (and-bit (a % 2) (b % 2) (mod-lt a (omega arith)) (mod-lt b (omega arith))) in
-    let high : ones (bitAnd a b / 2) ≡ ones (bitAnd (a / 2) (b / 2)) = ap ones (and-shr a b 1) in
-    let sum : parityOf a b ≡ (bit A + bit o) % 2 = omega (arith, ones-step (bitAnd a b), low, high, ih) in
-    sum ∙ sum-bit A o ∙ ap₂ (λ (m u : List Bool). bit (odd m u)) (sym (bits-suc w a)) (sym (bits-suc w b))
-
 pub parity-low : (a b : ℕ) → parityOf a b < 2
 parity-low a b = mod-lt (ones (bitAnd a b)) (omega arith)
+
+bit-back : (x : ℕ) → x < 2 → x ≡ bit (isOne x)
+bit-back zero h = refl
+bit-back (suc zero) h = refl
+bit-back (suc (suc x)) h = absurd (omega arith)
+
+-- the count of common ones is odd exactly when an odd number of the named bits hold 1
+parity-bits : (w a b : ℕ) → b < 2 ^ w → parityOf a b ≡ bit (odd (wordBits w a) (wordBits w b))
+parity-bits w a b h = bit-back (parityOf a b) (parity-low a b) ∙ ap bit (sym (odd-wordBits w a b h))
 
 -- ---- lists of words
 
@@ -82,11 +59,6 @@ xor-one (suc zero) true h = refl
 xor-one (suc zero) false h = refl
 xor-one (suc (suc x)) p h = absurd (omega arith)
 
-bit-back : (x : ℕ) → x < 2 → x ≡ bit (isOne x)
-bit-back zero h = refl
-bit-back (suc zero) h = refl
-bit-back (suc (suc x)) h = absurd (omega arith)
-
 pub flipped : (p : Bool) → bitXor (bit p) 1 ≡ bit (true ⊕ p)
 flipped true = refl
 flipped false = refl
@@ -96,16 +68,16 @@ abbrev pub Counting : ℕ → List ℕ → List ℕ → ℕ → ℕ → Type 0
 Counting w ms v k o = isOne o ⊕ odd (unpacked w (drop k ms)) (unpacked w (drop k v)) ≡ odd (unpacked w ms) (unpacked w v)
 
 module _ (w : ℕ) (ms v : List ℕ) (k o : ℕ) where
-  pub count-on : k < length ms → k < length v → getD ms k 0 < 2 ^ w → o < 2 → Counting w ms v k o → Counting w ms v (k + 1) (bitXor o (parityOf (getD ms k 0) (getD v k 0)))
+  pub count-on : k < length ms → k < length v → getD v k 0 < 2 ^ w → o < 2 → Counting w ms v k o → Counting w ms v (k + 1) (bitXor o (parityOf (getD ms k 0) (getD v k 0)))
   unfolding unpacked
   count-on hM hV hw ho inv =
       let m : ℕ = getD ms k 0 in
       let x : ℕ = getD v k 0 in
-      let p : Bool = odd (bitsOf w m) (bitsOf w x) in
+      let p : Bool = odd (wordBits w m) (wordBits w x) in
       let q : Bool = odd (unpacked w (drop (suc k) ms)) (unpacked w (drop (suc k) v)) in
       let cut : odd (unpacked w (drop k ms)) (unpacked w (drop k v)) ≡ p ⊕ q =
       ap₂ (λ (a b : List ℕ). odd (unpacked w a) (unpacked w b)) (drop-cons ms k 0 hM) (drop-cons v k 0 hV)
-      ∙ odd-append (bitsOf w m) (unpacked w (drop (suc k) ms)) (bitsOf w x) (unpacked w (drop (suc k) v)) (length-tab w _ ∙ sym (length-tab w _)) in
+      ∙ odd-append (wordBits w m) (unpacked w (drop (suc k) ms)) (wordBits w x) (unpacked w (drop (suc k) v)) (length-wordBits w m ∙ sym (length-wordBits w x)) in
       rw (add-one k, parity-bits w m x hw, xor-one o p ho, ⊕-assoc (isOne o) p q) (ap (λ (t : Bool). isOne o ⊕ t) (sym cut) ∙ inv)
 
   pub count-end : length ms ≤ k → o < 2 → Counting w ms v k o → o ≡ bit (odd (unpacked w ms) (unpacked w v))
@@ -123,8 +95,8 @@ bytes-bits zero (a ∷ v) h = absurd (omega arith)
 bytes-bits (suc k) [] h = absurd (omega arith)
 bytes-bits (suc k) (a ∷ v) h =
     let f : ℕ → Bool = λ j. eqb (bitAt (getD (a ∷ v) (j / 8) 0) (j % 8)) 1 in
-    ap (λ (m : ℕ). tab m f) (let e : 8 * suc k ≡ 8 + 8 * k = omega arith in e) ∙ tab-append 8 (8 * k) f
-    ∙ ap (λ (t : List Bool). bitsOf 8 a ++ t)
+    ap (λ (m : ℕ). tab m f) (let e : 8 * suc k ≡ 8 + 8 * k = omega arith in e) ∙ tab-append 8 (8 * k) f ∙ ap (λ (t : List Bool). t ++ tab (8 * k) (λ (j : ℕ). f (8 + j))) (sym (wordBits-tab 8 a))
+    ∙ ap (λ (t : List Bool). wordBits 8 a ++ t)
     (tab-ext (8 * k) _ _ (λ j.
     let q : (8 + j) / 8 ≡ suc (j / 8) = omega arith in
     let m : (8 + j) % 8 ≡ j % 8 = omega arith in
@@ -151,7 +123,7 @@ mask-unpacked s i h =
 held-length : (v : List ℕ) → length (held v) ≡ 8 * length v
 unfolding held unpacked
 held-length [] = refl
-held-length (a ∷ v) = simp length-append (omega (arith, held-length v, length-tab 8 (λ (j : ℕ). eqb (bitAt a j) 1)))
+held-length (a ∷ v) = simp length-append (omega (arith, held-length v, length-wordBits 8 a))
 
 held-at : (v : List ℕ) (j : ℕ) → j < 8 * length v → getD (held v) j false ≡ eqb (bitAt (getD v (j / 8) 0) (j % 8)) 1
 unfolding held

@@ -14,11 +14,11 @@ use lib.Seq.{drop-cons, take-suc-set, take-all}
 use lib.Dec.{eqb}
 use lib.Bits.{bitXor}
 use borrow.Author.Tests.{eq-eqb, ne-eqb}
-use Rattle.bits.specs.Vectors.{_⊕_, bit, tab}
+use Rattle.bits.specs.Vectors.{_⊕_, bit, tab, odd}
 use Rattle.bits.proofs.Tests.{length-tab, tab-at}
 use Rattle.meaning.specs.Limits.{maskBytes}
 use Rattle.meaning.specs.Sheet.{byte, mask, Rule, free, frozen, ruleAt, frees}
-use Rattle.meaning.specs.Check.{odd, freeBits}
+use Rattle.meaning.specs.Check.{freeBits}
 use Rattle.meaning.specs.Payload.{place}
 use Rattle.meaning.specs.Answers.{isOne}
 use Rattle.codec.specs.Division.{AreBits}

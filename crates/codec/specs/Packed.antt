@@ -1,5 +1,4 @@
 -- Values of positions, packed so that a record's mask can be counted against them word by word. The words are bytes, as the mask's.
---     bitsOf w a      the w lowest bits of a word, lowest first
 --     unpacked w v    the bits of words of w bits, one word after the other
 --     held v          the values that packed words hold
 --     Holds v c       they are those of c, and 0 past its end
@@ -9,17 +8,12 @@ use Prim.Native.Nat.{ℕ, _+_, _*_}
 use mathlib.Core.Bool.{Bool, false}
 use mathlib.Core.List.{List, [], _∷_, _++_}
 use lib.ListN.{take, drop, getD}
-use lib.Dec.{eqb}
-use Rattle.bits.specs.Vectors.{tab}
-use Rattle.bits.specs.Words.{bitAt}
+use Rattle.bits.specs.Words.{wordBits}
 use Rattle.meaning.specs.Limits.{maskBytes, recordBytes}
-
-abbrev pub bitsOf : ℕ → ℕ → List Bool
-bitsOf w a = tab w (λ (j : ℕ). eqb (bitAt a j) 1)
 
 unfoldable pub unpacked : ℕ → List ℕ → List Bool
 unpacked w [] = []
-unpacked w (a ∷ v) = bitsOf w a ++ unpacked w v
+unpacked w (a ∷ v) = wordBits w a ++ unpacked w v
 
 unfoldable pub held : List ℕ → List Bool
 held v = unpacked 8 v

@@ -8,10 +8,10 @@ use native.Mathlib.Nat.{suc-inj}
 use mathlib.Core.Bool.{Bool, true, false, _&&_, _||_, not, false≢true}
 use mathlib.Core.List.{List, [], _∷_, _++_, map}
 use lib.ListN.{length, replicate, length-append, length-map}
-use Rattle.bits.specs.Vectors.{_⊕_, _⊞_, zeros}
+use Rattle.bits.specs.Vectors.{_⊕_, _⊞_, zeros, odd}
 use Rattle.bits.proofs.Tests.{and-l, and-r, and-i}
 use Rattle.bits.proofs.Xor.{⊕-swap, ⊞-swap, append-⊞, length-⊞, same-⊞, zeros-⊞, eq-⊕, ⊕-eq, and-⊕, ⊞-comm, ⊞-cancel}
-use Rattle.meaning.specs.Check.{odd, keepsRules, freeBits, shift, rest, poly, divides, keeps}
+use Rattle.meaning.specs.Check.{keepsRules, freeBits, shift, rest, poly, divides, keeps}
 use Rattle.meaning.specs.Codewords.{fits, agrees, erased}
 use Rattle.meaning.specs.Open.{clear}
 use Rattle.meaning.specs.Limits.{leads}

@@ -10,11 +10,11 @@ use mathlib.Core.Bool.{Bool, true, false, not}
 use mathlib.Core.List.{List·Memᴰ·head, List·Memᴰ·eq-of-singleton, Memᴰ·cast, List, [], _∷_, _++_, append-assoc, append-nil}
 use lib.ListN.{length, drop, take, length-append, take-append-drop, length-drop, length-take}
 use lib.Seq.{take-at}
-use Rattle.bits.specs.Vectors.{_⊕_, zeros, same}
+use Rattle.bits.specs.Vectors.{_⊕_, zeros, same, odd}
 use Rattle.bits.proofs.Tests.{and-l, and-r, and-i}
 use Rattle.bits.proofs.Xor.{eq-⊕, ⊕-eq, ⊞-self, zeros-none, zeros-eq}
 use Rattle.meaning.specs.Payload.{place, encoded, remainder}
-use Rattle.meaning.specs.Check.{odd, keepsRules, freeBits, poly, divides, keeps}
+use Rattle.meaning.specs.Check.{keepsRules, freeBits, poly, divides, keeps}
 use Rattle.meaning.specs.Limits.{leads}
 use Rattle.meaning.specs.Sheet.{Rule, free, frozen, early, frees}
 use Rattle.meaning.specs.Transform.{polar}

@@ -14,11 +14,11 @@ use mathlib.Core.List.{List, [], _∷_, _++_, map}
 use lib.ListN.{length, getD, take, drop, length-append, length-map}
 use lib.Seq.{take-append-seam, getD-append-seam}
 use lib.Pow.{pow-lt}
-use Rattle.bits.specs.Vectors.{_⊕_, allBits, any, count, zeros, same, ones}
+use Rattle.bits.specs.Vectors.{_⊕_, allBits, any, count, zeros, same, ones, odd}
 use Rattle.bits.proofs.Rising.{bits-any}
 use Rattle.bits.proofs.Tests.{and-l, and-r, and-i, tab-at, length-tab}
 use Rattle.bits.proofs.Xor.{⊕-self, eq-⊕, ⊞-self, zeros-none}
-use Rattle.meaning.specs.Check.{odd, keepsRules, keeps}
+use Rattle.meaning.specs.Check.{keepsRules, keeps}
 use Rattle.meaning.specs.Codewords.{agrees, erased, candidates}
 use Rattle.meaning.specs.Open.{meet, openFree, isOpen, openPair, opens, openAll, unknowns}
 use Rattle.meaning.specs.Sheet.{Rule, free, frozen, early}

@@ -1,5 +1,4 @@
 -- Which vectors u a sheet allows: those that keep every frozen rule and the check.
---     odd m u             an odd number of the positions that m names hold 1 in u
 --     keepsRules ks u v   the positions v, the last of u, keep the rules ks
 --     freeBits ks u       the free bits, in rising position
 --     terms r, poly r     the check polynomial of length r (3GPP TS 38.212, clause 5.1)
@@ -10,17 +9,11 @@ use mathlib.Core.Bool.{Bool, true, false, _&&_, not}
 use mathlib.Core.List.{List, [], _∷_, _++_, map}
 use lib.ListN.{replicate}
 use lib.Dec.{eqb}
-use Rattle.bits.specs.Vectors.{_⊕_, _⊞_, pick, any, tab, zeros}
+use Rattle.bits.specs.Vectors.{_⊕_, _⊞_, pick, any, tab, zeros, odd}
 use Rattle.meaning.specs.Limits.{leads}
 use Rattle.meaning.specs.Sheet.{Rule, free, frozen}
 
 -- ---- the frozen rules
-
--- whether an odd number of the named positions hold 1
-abbrev pub odd : List Bool → List Bool → Bool
-odd [] u = false
-odd (m ∷ ms) [] = false
-odd (m ∷ ms) (b ∷ u) = (m && b) ⊕ odd ms u
 
 -- a frozen u_i is the constant, flipped if an odd number of the positions it names hold 1
 abbrev pub keepsRules : List Rule → List Bool → List Bool → Bool

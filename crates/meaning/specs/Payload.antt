@@ -6,10 +6,10 @@ use mathlib.Core.Bool.{Bool, false}
 use Prim.Native.Nat.{ℕ}
 use mathlib.Core.List.{List, [], _∷_, _++_}
 use lib.ListN.{length, replicate}
-use Rattle.bits.specs.Vectors.{_⊕_}
+use Rattle.bits.specs.Vectors.{_⊕_, odd}
 use Rattle.meaning.specs.Limits.{leads}
 use Rattle.meaning.specs.Sheet.{Rule, free, frozen}
-use Rattle.meaning.specs.Check.{odd, rest, poly}
+use Rattle.meaning.specs.Check.{rest, poly}
 
 unfoldable pub remainder : List Bool → List Bool → List Bool
 remainder g p = rest g (replicate (length g) false) (p ++ replicate (length g) false)

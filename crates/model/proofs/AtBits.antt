@@ -10,12 +10,12 @@ use mathlib.Core.Bool.{Bool, true, false, _&&_, not}
 use mathlib.Core.List.{List, [], _∷_, _++_, map, append-nil, append-assoc}
 use mathlib.Core.Option.{Option}
 use lib.ListN.{length, take, drop, replicate, length-append, length-take, length-drop, take-append-drop}
-use Rattle.bits.specs.Vectors.{_⊕_, _⊞_, tab}
+use Rattle.bits.specs.Vectors.{_⊕_, _⊞_, tab, odd}
 use Rattle.bits.proofs.Tests.{length-tab}
 use Rattle.meaning.specs.Limits.{leads}
 use Rattle.meaning.specs.Transform.{polar}
 use Rattle.meaning.specs.Sheet.{Rule, free, frozen}
-use Rattle.meaning.specs.Check.{odd, freeBits, shift, rest, poly}
+use Rattle.meaning.specs.Check.{freeBits, shift, rest, poly}
 use Rattle.meaning.proofs.Polar.{polar-append, length-polar}
 use Rattle.model.specs.Model.{Walk, Out, freeOf, sums, gate, scaled, named, ruleValue, leftSyms, rightSyms, valueAt, stepAt, joinOut, decode, shiftOf, restOf, checks}
 use Rattle.model.specs.AtBits.{bits}

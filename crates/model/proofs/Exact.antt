@@ -13,10 +13,10 @@ use native.Mathlib.Nat.{zero-add}
 use mathlib.Core.Bool.{Bool, true, false, _&&_, not, true≢false, and-true}
 use mathlib.Core.List.{List, [], _∷_, _++_, map}
 use lib.ListN.{length, getD, drop, replicate, length-append}
-use Rattle.bits.specs.Vectors.{_⊕_, allBits, filter, tab, zeros, before}
+use Rattle.bits.specs.Vectors.{_⊕_, allBits, filter, tab, zeros, before, odd}
 use Rattle.bits.proofs.Tests.{and-l, and-r, and-i, tab-getD, tab-at, length-tab}
 use Rattle.bits.proofs.Xor.{⊕-self, eq-⊕, zeros-append}
-use Rattle.meaning.specs.Check.{odd, freeBits, rest, poly, keepsRules, keeps}
+use Rattle.meaning.specs.Check.{freeBits, rest, poly, keepsRules, keeps}
 use Rattle.meaning.specs.Codewords.{agrees, erased, candidates}
 use Rattle.meaning.specs.Open.{openFree, isOpen, openAll, unknowns}
 use Rattle.meaning.specs.Limits.{leads}

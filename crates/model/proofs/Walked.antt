@@ -12,11 +12,11 @@ use mathlib.Core.Bool.{Bool, true, false, _&&_, not, and-assoc, and-comm}
 use mathlib.Core.List.{List, [], _∷_, _++_, map, append-nil, append-assoc}
 use mathlib.Core.Option.{Option, none, some}
 use lib.ListN.{length, drop, length-append}
-use Rattle.bits.specs.Vectors.{_⊕_, tab, zeros, ones}
+use Rattle.bits.specs.Vectors.{_⊕_, tab, zeros, ones, odd}
 use Rattle.bits.proofs.Tests.{and-l, and-r, and-i}
 use Rattle.bits.proofs.Xor.{⊕-eq}
 use Rattle.meaning.specs.Sheet.{Rule, free, frozen, early}
-use Rattle.meaning.specs.Check.{odd, keepsRules}
+use Rattle.meaning.specs.Check.{keepsRules}
 use Rattle.meaning.specs.Open.{openFree, closedFrozen}
 use Rattle.meaning.proofs.Gap.{odd-early}
 use Rattle.model.specs.Model.{Walk, ruleValue, valueAt, eqsAt, stepAt}

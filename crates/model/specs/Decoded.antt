@@ -8,11 +8,11 @@ use Prim.Native.Nat.{ℕ, _^_}
 use mathlib.Core.Bool.{Bool, true, false, _&&_, not}
 use mathlib.Core.List.{List, [], _∷_, _++_}
 use lib.ListN.{length, replicate}
-use Rattle.bits.specs.Vectors.{_⊕_, tab}
+use Rattle.bits.specs.Vectors.{_⊕_, tab, odd}
 use Rattle.meaning.specs.Limits.{leads}
 use Rattle.meaning.specs.Transform.{polar}
 use Rattle.meaning.specs.Sheet.{Rule, free, frozen}
-use Rattle.meaning.specs.Check.{odd, freeBits, rest, poly}
+use Rattle.meaning.specs.Check.{freeBits, rest, poly}
 use Rattle.meaning.specs.Codewords.{agrees}
 use Rattle.meaning.specs.Open.{openFree, openAll, unknowns}
 

@@ -73,7 +73,7 @@ loop-again c =
     let e : c .parity .result ≡ parityOf (getD (maskOf s i) k 0) (getD vs k 0) = c .parity .ensures ∙ ap₂ parityOf em (second .wide2 .ensures .0) in (
       omega arith,
       rw e (xor-lt 1 _ _ (inv .1) (parity-low (getD (maskOf s i) k 0) (getD vs k 0))),
-      rw e (count-on 8 (maskOf s i) vs k _ (omega (arith, length-maskOf s i (start .pre .0))) (omega arith) (rw em at (first .wide .ensures .1)) (inv .1) (inv .2)),
+      rw e (count-on 8 (maskOf s i) vs k _ (omega (arith, length-maskOf s i (start .pre .0))) (omega arith) (rw (second .wide2 .ensures .0) at (second .wide2 .ensures .1)) (inv .1) (inv .2)),
     )
 
 returns : tie.Need-returns Inv-loop μ-loop

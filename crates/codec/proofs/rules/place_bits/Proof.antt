@@ -6,10 +6,9 @@ use Prim.Native.Nat.{_<_, _-_}
 use native.Mathlib.Omega.{arith}
 use lib.ListN.{length, getD, length-map}
 use lib.Dec.{eqb}
-use Rattle.bits.specs.Vectors.{_⊕_}
+use Rattle.bits.specs.Vectors.{_⊕_, odd}
 use Rattle.meaning.specs.Limits.{recordBytes, maskBytes}
 use Rattle.meaning.specs.Sheet.{byte, mask}
-use Rattle.meaning.specs.Check.{odd}
 use Rattle.meaning.specs.Answers.{isOne}
 use Rattle.codec.specs.Packed.{held}
 use Rattle.codec.proofs.Placing.{Placing, starts, free-room, free-goes, frozen-goes, placed, free-bit, small}

@@ -4,7 +4,7 @@ use native.Mathlib.Omega.{arith}
 use lib.Bits.{bitXor}
 use borrow.Author.Tests.{eq-eqb, ne-eqb}
 use Rattle.meaning.specs.Sheet.{mask}
-use Rattle.meaning.specs.Check.{odd}
+use Rattle.bits.specs.Vectors.{odd}
 use Rattle.meaning.specs.Limits.{recordBytes, maskBytes}
 use Rattle.codec.specs.Packed.{held}
 use Rattle.codec.proofs.Packing.{flipped}

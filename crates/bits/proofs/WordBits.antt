@@ -1,0 +1,93 @@
+-- The bits of a machine word one by one, at any width: those of a xor, the highest, and all as a vector.
+--     hasBit-xor, odd-xor    a bit of a xor; whether a xor has an odd number of 1s in common with a word
+--     bit-top, bit-above     the highest 1, and none above it
+--     leading-bit            the leading zeros say where the highest 1 is
+--     no-bits                a word none of whose bits is 1 is 0
+--     length-wordBits, wordBits-tab     the vector of the lowest bits
+--     odd-wordBits           the parity of an AND by it
+use mathlib.Core.Path.{_≡_, refl, sym, ap, ap₂, _∙_}
+use mathlib.Core.Logic.{⊎-elim}
+use Prim.Native.Nat.{ℕ, zero, suc, _+_, _/_, _%_, _^_, _≤_, _<_}
+use native.Mathlib.Omega.{arith}
+use native.Mathlib.Nat.{pow-suc, div-one, div-div-eq-div-mul, div-eq-of-lt, div-eq-of-lt-le, lt-of-lt-of-le, eq-zero-or-pos}
+use mathlib.Core.Bool.{Bool, true, false, _&&_, true≢false}
+use mathlib.Core.List.{List, _∷_}
+use lib.ListN.{length}
+use lib.Arith.{lt-one}
+use lib.Pow.{pow-mono}
+use lib.Bits.{bitAnd, bitXor, and-zero-r}
+use lib.Count.{ones, ones-step, leadingZeros, leading-top}
+use lib.Dec.{eqb}
+use Rattle.bits.specs.Vectors.{_⊕_, odd, tab}
+use Rattle.bits.proofs.Tests.{tab-ext}
+use Rattle.bits.specs.Words.{bitAt, parityOf, hasBit, oddOf, wordBits}
+use Rattle.bits.proofs.Words.{bit-cases, mod-two, and-half, and-low, parity-of-xor, bit-xor}
+
+-- ---- bits as tests
+
+one-xor : (p q : ℕ) → p < 2 → q < 2 → eqb ((p + q) % 2) 1 ≡ eqb p 1 ⊕ eqb q 1
+one-xor p q hp hq =
+    bit-cases (λ p. eqb ((p + q) % 2) 1 ≡ eqb p 1 ⊕ eqb q 1)
+    (bit-cases (λ q. eqb ((0 + q) % 2) 1 ≡ eqb 0 1 ⊕ eqb q 1) refl refl q hq)
+    (bit-cases (λ q. eqb ((1 + q) % 2) 1 ≡ eqb 1 1 ⊕ eqb q 1) refl refl q hq) p hp
+
+one-and : (p q : ℕ) → p < 2 → q < 2 → eqb (bitAnd p q) 1 ≡ eqb p 1 && eqb q 1
+one-and p q hp hq =
+    bit-cases (λ p. eqb (bitAnd p q) 1 ≡ eqb p 1 && eqb q 1)
+    (bit-cases (λ q. eqb (bitAnd 0 q) 1 ≡ eqb 0 1 && eqb q 1) refl refl q hq)
+    (bit-cases (λ q. eqb (bitAnd 1 q) 1 ≡ eqb 1 1 && eqb q 1) refl refl q hq) p hp
+
+pub hasBit-xor : (a b j : ℕ) → hasBit (bitXor a b) j ≡ hasBit a j ⊕ hasBit b j
+hasBit-xor a b j = ap (λ (n : ℕ). eqb n 1) (bit-xor a b j) ∙ one-xor (bitAt a j) (bitAt b j) (mod-two (a / 2 ^ j)) (mod-two (b / 2 ^ j))
+
+pub odd-xor : (a b v : ℕ) → oddOf (bitXor a b) v ≡ oddOf a v ⊕ oddOf b v
+odd-xor a b v =
+    ap (λ (n : ℕ). eqb n 1) (parity-of-xor a b v) ∙ one-xor (parityOf a v) (parityOf b v) (mod-two (ones (bitAnd a v))) (mod-two (ones (bitAnd b v)))
+
+-- ---- the highest 1
+
+pub bit-top : (x j : ℕ) → 2 ^ j ≤ x → x < 2 ^ suc j → hasBit x j ≡ true
+bit-top x j l h = rw (div-eq-of-lt-le {k = 1} (2 ^ j) {m = x} (omega arith) (omega arith)) refl
+
+pub bit-above : (x j t : ℕ) → x < 2 ^ j → j ≤ t → hasBit x t ≡ false
+bit-above x j t h l = rw (div-eq-of-lt (lt-of-lt-of-le h (pow-mono l))) refl
+
+pub zero-bit : (j : ℕ) → hasBit 0 j ≡ false
+zero-bit j = bit-above 0 0 j (omega arith) (omega arith)
+
+-- place j of the highest 1 of a word of n bits: it and the leading zeros make n
+pub leading-bit : (n x : ℕ) → 0 < x → x < 2 ^ n → (j : ℕ) × (leadingZeros n x + suc j ≡ n) × (hasBit x j ≡ true) × ((t : ℕ) → j < t → hasBit x t ≡ false)
+leading-bit n x p h = let (j, s, lo, hi) = leading-top n x p h in (j, s, bit-top x j lo hi, λ t l. bit-above x (suc j) t hi l)
+
+pub no-bits : (n x : ℕ) → x < 2 ^ n → ((j : ℕ) → j < n → hasBit x j ≡ false) → x ≡ 0
+no-bits n x f h =
+    ⊎-elim (λ (z : x ≡ 0). z)
+    (λ (p : 0 < x). let (j, s, b, a) = leading-bit n x p f in absurd (true≢false (sym b ∙ h j (omega arith))))
+    (eq-zero-or-pos x)
+
+-- ---- all bits
+
+pub length-wordBits : (n a : ℕ) → length (wordBits n a) ≡ n
+unfolding wordBits
+length-wordBits zero a = refl
+length-wordBits (suc n) a = ap suc (length-wordBits n (a / 2))
+
+pub odd-wordBits : (n a v : ℕ) → v < 2 ^ n → odd (wordBits n a) (wordBits n v) ≡ oddOf a v
+unfolding wordBits ones
+odd-wordBits zero a v h = sym (ap (λ (m : ℕ). eqb (ones m % 2) 1) (ap (bitAnd a) (lt-one h) ∙ and-zero-r a))
+odd-wordBits (suc n) a v h =
+    let m = bitAnd a v in
+    let s : ones m % 2 ≡ (m % 2 + ones (m / 2) % 2) % 2 = omega (arith, ones-step m) in
+    sym (ap (λ (k : ℕ). eqb k 1) s ∙ one-xor (m % 2) (ones (m / 2) % 2) (mod-two m) (mod-two (ones (m / 2)))
+    ∙ ap₂ _⊕_ (ap (λ (k : ℕ). eqb k 1) (and-low a v) ∙ one-and (a % 2) (v % 2) (mod-two a) (mod-two v))
+    (ap (λ (k : ℕ). eqb (ones k % 2) 1) (and-half a v) ∙ sym (odd-wordBits n (a / 2) (v / 2) (omega arith))))
+
+pub bit-suc : (a j : ℕ) → bitAt a (suc j) ≡ bitAt (a / 2) j
+bit-suc a j = ap (λ (x : ℕ). x % 2) (ap (λ (x : ℕ). a / x) (pow-suc 2 j ∙ omega arith) ∙ sym (div-div-eq-div-mul a 2 (2 ^ j)))
+
+pub wordBits-tab : (n a : ℕ) → wordBits n a ≡ tab n (hasBit a)
+unfolding wordBits
+wordBits-tab zero a = refl
+wordBits-tab (suc n) a =
+    ap₂ {C = List Bool} _∷_ (ap (λ (x : ℕ). eqb (x % 2) 1) (sym (div-one a)))
+    (wordBits-tab n (a / 2) ∙ tab-ext n (hasBit (a / 2)) (λ (j : ℕ). hasBit a (suc j)) (λ j. ap (λ (x : ℕ). eqb x 1) (sym (bit-suc a j))))

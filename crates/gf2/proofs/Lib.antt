@@ -1,0 +1,19 @@
+-- For callers: Linear (the same solutions), Reduced (the form that is left), Solutions (which they are, and how many),
+-- Record (which equations were added), Packed (assignments in words), Calls (from the promise to these laws);
+-- and what these speak of: Rows (the XOR of rows), Cut (the rows of a list of words), Leads (a row's highest coefficient).
+-- Behind the laws: Passes, Tally, Fill. Behind the code: Highest, Walk, Glue.
+pub mod Linear
+pub mod Reduced
+pub mod Solutions
+pub mod Record
+pub mod Packed
+pub mod Calls
+pub mod Rows
+pub mod Cut
+pub mod Leads
+pub mod Passes
+pub mod Tally
+pub mod Fill
+pub mod Highest
+pub mod Walk
+pub mod Glue
