@@ -120,7 +120,7 @@ fn encode_in(
 pub fn encode(n: usize, sheet: &[u8], r: usize, payload: &[u8], out: &mut [u8]) -> Answer
     ensures { λ a. ⌜ leaving (now (out .exit)) a ≡ encoding n (now (sheet .entry)) r (now (payload .entry)) (now (out .entry)) ⌝ }
 {
-    let mut free = [0u8; 128];
+    let mut free = [0u8; sheet::POSITIONS];
     encode_in(n, sheet, r, payload, &mut free, out)
 }
 
@@ -218,8 +218,8 @@ fn read_in(
 pub fn read_back(n: usize, sheet: &[u8], r: usize, word: &[u8], out: &mut [u8]) -> Answer
     ensures { λ a. ⌜ leaving (now (out .exit)) a ≡ readingBack n (now (sheet .entry)) r (now (word .entry)) (now (out .entry)) ⌝ }
 {
-    let mut u = [0u8; 128];
-    let mut free = [0u8; 128];
-    let mut v = [0u8; 128];
+    let mut u = [0u8; sheet::POSITIONS];
+    let mut free = [0u8; sheet::POSITIONS];
+    let mut v = [0u8; sheet::POSITIONS];
     read_in(n, sheet, r, word, &mut u, &mut free, &mut v, out)
 }

@@ -64,7 +64,7 @@ pub fn place_bits(sheet: &[u8], free: &[u8], u: &mut [u8])
     requires { ⌜ AreBits (now free) × (length (now free) ≡ frees (tab (length (now u)) (ruleAt (now sheet)))) ⌝ }
     ensures { λ _. ⌜ now (u .exit) ≡ map bit (place (tab (length (now (u .entry))) (ruleAt (now (sheet .entry)))) [] (map isOne (now (free .entry)))) ⌝ }
 {
-    let mut values = [0u8; 16];
+    let mut values = [0u8; sheet::MASK];
     let mut next = 0;
     let mut i = 0;
     while i < u.len() {

@@ -1,4 +1,4 @@
-// A word's symbols: its length, the first symbol that is none, and room for the answer.
+// A word's symbols: the first that is none.
 ghost use mathlib.Core.Path.{_≡_};
 ghost use lib.Dec.{ltb};
 ghost use Rattle.bits.specs.Vectors.{firstPlace};

@@ -2,13 +2,13 @@
 --     whole            a word with nothing erased: itself, if it is a codeword, and else no candidate
 --     encode-is        what encoding gives where nothing is refused
 --     read-is          what read-back gives where nothing is refused: 0 exactly on codewords
---     round-trip       what encoding wrote, read-back gives back
+--     round-trip       what encoding wrote, read-back gives back; round-trip-promised, of any results that the two promises allow
 use mathlib.Core.Path.{_≡_, refl, sym, ap, _∙_}
 use Prim.Native.Nat.{ℕ, suc, _≤_, _+_, _-_, _^_}
 use native.Mathlib.Omega.{arith}
 use native.Mathlib.Nat.{suc-inj}
 use mathlib.Core.Bool.{Bool, true, false, false≢true, true≢false}
-use mathlib.Core.List.{List, [], _∷_, map, List·Memᴰ, List·Memᴰ·head, List·Memᴰ·not-nil, List·Memᴰ·eq-of-singleton}
+use mathlib.Core.List.{List, [], _∷_, _++_, map, List·Memᴰ, List·Memᴰ·head, List·Memᴰ·not-nil, List·Memᴰ·eq-of-singleton}
 use lib.Dec.{ltb}
 use lib.Seq.{take-at}
 use lib.ListN.{take, drop, length, length-map}
@@ -20,13 +20,14 @@ use Rattle.meaning.specs.Check.{freeBits, keeps}
 use Rattle.meaning.specs.Codewords.{agrees, candidates, payloadOf, carrying}
 use Rattle.meaning.specs.Payload.{encoded}
 use Rattle.meaning.specs.Strips.{first}
-use Rattle.meaning.specs.Answers.{Reply, refuses, sheetRefusals, wordRefusals, encodeRefusals, readRefusals, isOne, leaving, writing, encoding, payloadRead, readingBack}
+use Rattle.meaning.specs.Answers.{Reply, refuses, sheetRefusals, wordRefusals, encodeRefusals, readRefusals, isOne, isDone, leaving, writing, encoding, payloadRead, readingBack}
+use Rattle.meaning.specs.declared.Answer.{Answer}
 use Rattle.meaning.specs.declared.Answer.the-variants.{Done, Inconsistent}
 use Rattle.meaning.proofs.Polar.{length-polar, polar-polar}
 use Rattle.meaning.proofs.Sound.{length-rules}
 use Rattle.meaning.proofs.Candidates.{earlier-unique, candidates-rise, candidate-iff}
 use Rattle.meaning.proofs.Encode.{encoded-keeps, carrying-one}
-use Rattle.meaning.proofs.Refusals.{first-none, none-append, both-none}
+use Rattle.meaning.proofs.Refusals.{first-none, none-append, both-none, done-none}
 use Rattle.meaning.proofs.Forms.{Good, good, Worded, worded, bits-back}
 
 -- ---- a word with nothing erased
@@ -152,3 +153,19 @@ round-trip n s r p out out′ ok room =
     ∙ ap (λ (t : Bool). pick t (writing (map bit (payloadOf n ks r (map isOne (map bit x)))) out′ Done) (leaving out′ (Inconsistent 0 0))) kept
     ∙ ap (λ (l : List Bool). writing (map bit l) out′ Done) paid
     ∙ ap (λ (l : List ℕ). writing l out′ Done) (bits-back p (w .symbols))
+
+-- encoding that answers Done was refused by nothing
+encoded-none : (n : ℕ) (s : List ℕ) (r : ℕ) (p out : List ℕ) → isDone ((encoding n s r p out) .answer) ≡ true → refuses (encodeRefusals n s r p out) ≡ false
+unfolding encoding encodeRefusals sheetRefusals wordRefusals
+encoded-none n s r p out d = done-none out (encodeRefusals n s r p out) _ refl d
+
+pub round-trip-promised : (n : ℕ) (s : List ℕ) (r : ℕ) (p out out′ x y : List ℕ) (a b : Answer)
+    → leaving x a ≡ encoding n s r p out → a ≡ Done
+    → leaving y b ≡ readingBack n s r (take (2 ^ n) x) out′ → frees (rules n s) - r ≤ length out′
+    → (b ≡ Done) × (y ≡ p ++ drop (length p) out′)
+round-trip-promised n s r p out out′ x y a b e d f room =
+    let ok : refuses (encodeRefusals n s r p out) ≡ false =
+    encoded-none n s r p out (ap (λ (t : Reply). isDone (t .answer)) (sym e) ∙ ap isDone d) in
+    let back : leaving y b ≡ writing p out′ Done =
+    f ∙ ap (λ (t : Reply). readingBack n s r (take (2 ^ n) (t .bytes)) out′) e ∙ round-trip n s r p out out′ ok room in
+    (ap (λ (t : Reply). t .answer) back, ap (λ (t : Reply). t .bytes) back)

@@ -2,12 +2,14 @@
 --     first-none       where no row applies, the verdict is given
 --     first-append     a table may be tried in two parts
 --     tried-done, tried-refused     a table tried by itself, before more rows
+--     done-none        a call that answers Done was refused by no row
 use mathlib.Core.Path.{_≡_, refl, sym, ap, _∙_}
+use Prim.Native.Nat.{ℕ}
 use mathlib.Core.Bool.{Bool, true, false, _&&_, _||_, not, false≢true, true≢false}
 use mathlib.Core.List.{List, [], _∷_, _++_, append-nil}
 use Rattle.bits.specs.Vectors.{pick, all}
 use Rattle.bits.proofs.Tests.{or-false-l, or-false-r, and-r}
-use Rattle.meaning.specs.Answers.{isDone, Refusal, firstOf, refuses}
+use Rattle.meaning.specs.Answers.{isDone, Refusal, firstOf, refuses, Reply, leaving}
 use Rattle.meaning.specs.declared.Answer.{Answer}
 use Rattle.meaning.specs.declared.Answer.the-variants.{Done}
 
@@ -71,3 +73,11 @@ past-none f ts us z h = first-append f ts us z ∙ first-none f ts (firstOf f us
 
 pub tried-all : {A : Type 0} (f : Answer → A) (ts : List Refusal) (z : A) → isDone (tried ts) ≡ false → firstOf f ts z ≡ f (tried ts)
 tried-all f ts z h = ap (λ (l : List Refusal). firstOf f l z) (sym (append-nil ts)) ∙ tried-refused f ts [] z h
+
+-- a call that answers Done was refused by no row
+pub done-none : (out : List ℕ) (ts : List Refusal) (z : Reply) → Telling ts ≡ true → isDone ((firstOf (leaving out) ts z) .answer) ≡ true → refuses ts ≡ false
+done-none out ts z h d = go (isDone (tried ts)) refl
+  where
+    go : (b : Bool) → isDone (tried ts) ≡ b → refuses ts ≡ false
+    go true e = tried-done ts h e
+    go false e = absurd (false≢true (sym e ∙ ap (λ (a : Reply). isDone (a .answer)) (sym (tried-all (leaving out) ts z e)) ∙ d))

@@ -47,6 +47,8 @@ fn call(
 ) -> Reply {
     match op {
         0 => Reply::Answered(codec::check_sheet(n, a, r)),
+        1 => Reply::Answered(codec::encode(n, a, r, b, out)),
+        3 => Reply::Answered(codec::read_back(n, a, r, b, out)),
         _ => Reply::Unknown,
     }
 }
