@@ -1,6 +1,9 @@
 -- Xor: XOR of bits and vectors. Tests: tests over lists, tables, searches. Rising: the order of vectors. Words: machine words. WordBits: their bits one by one.
+-- RowLaws: rows of words in lists of words. Writing: what the loops of the functions on rows keep.
 pub mod Xor
 pub mod Tests
 pub mod Rising
 pub mod Words
 pub mod WordBits
+pub mod RowLaws
+pub mod Writing

@@ -25,6 +25,10 @@ and-r false b h = absurd (false≢true h)
 pub and-i : (a b : Bool) → a ≡ true → b ≡ true → a && b ≡ true
 and-i a b p q = rw p q
 
+pub and-false : (a b : Bool) → b ≡ false → a && b ≡ false
+and-false true b h = h
+and-false false b h = refl
+
 pub or-false-l : (a b : Bool) → a || b ≡ false → a ≡ false
 or-false-l true b h = absurd (true≢false h)
 or-false-l false b h = refl
@@ -168,6 +172,10 @@ tab-ext n f g h = tab-below n f g (λ i l. h i)
 pub tab-append : {A : Type 0} (m n : ℕ) (f : ℕ → A) → tab (m + n) f ≡ tab m f ++ tab n (λ (i : ℕ). f (m + i))
 tab-append zero n f = rw (zero-add n) (tab-ext n f (λ (i : ℕ). f (zero + i)) (λ i. ap f (sym (zero-add i))))
 tab-append {A} (suc m) n f = rw (suc-add m n) (ap {B = List A} (λ t. f zero ∷ t) (tab-append m n (λ (i : ℕ). f (suc i)) ∙ ap (λ (t : List A). tab m (λ (i : ℕ). f (suc i)) ++ t) (tab-ext n _ _ (λ i. ap f (sym (suc-add m i))))))
+
+pub tab-snoc : {A : Type 0} (n : ℕ) (f : ℕ → A) → tab (n + 1) f ≡ tab n f ++ (f n ∷ [])
+tab-snoc zero f = refl
+tab-snoc {A} (suc n) f = rw (suc-add n 1) (ap {B = List A} (λ r. f zero ∷ r) (tab-snoc n (λ (i : ℕ). f (suc i))))
 
 -- ---- a search from the front: what is left to do at place i
 

@@ -2,6 +2,8 @@
 ghost use mathlib.Core.Path.{_≡_};
 ghost use Rattle.bits.specs.Words.{parityOf};
 
+pub mod rows;
+
 // 1 if an odd number of the places that `mask` names hold 1 in `value`, else 0.
 pub fn parity(mask: u64, value: u64) -> u8
     ensures { λ r. ⌜ r ≡ parityOf mask value ⌝ }

@@ -13,7 +13,8 @@ use lib.ListN.{length}
 use borrow.Author.Tests.{eqb-true, not-true, eqb-false, ltb-false}
 use Rattle.bits.specs.Vectors.{pick}
 use Rattle.bits.proofs.Tests.{and-l, and-r}
-use Rattle.gf2.specs.Rows.{Row, rowsOf, flat}
+use Rattle.bits.specs.Rows.{Row}
+use Rattle.gf2.specs.Rows.{rowsOf, flat}
 use Rattle.gf2.specs.Solve.{solve, Done, done, fits, solved}
 use Rattle.gf2.specs.System.{Wide}
 use Rattle.gf2.specs.declared.Outcome.{Outcome}

@@ -10,7 +10,8 @@ use native.Mathlib.Nat.{zero-add, suc-add, div-add-mod', div-eq-of-eq-mul-left}
 use mathlib.Core.List.{List, [], _∷_, _++_}
 use lib.ListN.{length, take, drop, getD, length-append, length-drop, take-append-drop}
 use lib.Seq.{length-take-le, take-at, drop-at, drop-drop, getD-at, getD-take, getD-drop, take-append-le, drop-append-le}
-use Rattle.gf2.specs.Rows.{Row, rows, rowsOf, flat, at}
+use Rattle.bits.specs.Rows.{Row}
+use Rattle.gf2.specs.Rows.{rows, rowsOf, flat, at}
 use Rattle.gf2.specs.System.{Wide}
 
 -- ---- the w words from a place on

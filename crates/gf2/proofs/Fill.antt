@@ -19,7 +19,8 @@ use Rattle.bits.specs.Vectors.{_⊕_, bit, pick, count, allBits, before}
 use Rattle.bits.proofs.Xor.{⊕-self, ⊕-false, ⊕-assoc, ⊕-comm, ⊕-swap, and-⊕, eq-⊕}
 use Rattle.bits.proofs.Tests.{and-l, and-r, and-i, bool-ext, not-both, all-at, at-all, count-none}
 use Rattle.bits.proofs.Rising.{count-suc, count-bits}
-use Rattle.gf2.specs.Rows.{Row, _⊻_, has, at}
+use Rattle.bits.specs.Rows.{Row, _⊻_}
+use Rattle.gf2.specs.Rows.{has, at}
 use Rattle.gf2.specs.Solve.{lead}
 use Rattle.gf2.specs.System.{led, Within, Hom, Distinct, dot, value, solves, consistent, owner, isNone, free, forced, fill, completed, unit}
 use Rattle.gf2.proofs.Rows.{has-⊻}

@@ -14,7 +14,8 @@ use lib.ListN.{length, take, drop, set, getD, length-append, length-map}
 use lib.Seq.{take-at, drop-at, set-at, take-append-le, drop-append-le}
 use lib.Count.{leadingZeros}
 use Rattle.bits.specs.Vectors.{pick}
-use Rattle.gf2.specs.Rows.{Row, _⊻_, hasAt, clearAt, clear, rows, at}
+use Rattle.bits.specs.Rows.{Row, _⊻_}
+use Rattle.gf2.specs.Rows.{hasAt, clearAt, clear, rows, at}
 use Rattle.gf2.specs.Solve.{top, lead, Sys, sys, pass, step, steps, solve, fits, done, solved}
 use Rattle.gf2.specs.Inner.{used, over}
 use Rattle.gf2.specs.declared.Outcome.the-variants.{Misfit, Rank}

@@ -14,7 +14,8 @@ use lib.Dec.{eqb}
 use borrow.Author.Tests.{eq-eqb, ne-eqb, eqb-true, eqb-false, not-true, not-false}
 use Rattle.bits.specs.Words.{hasBit}
 use Rattle.bits.proofs.WordBits.{zero-bit, leading-bit}
-use Rattle.gf2.specs.Rows.{Row, hasAt, has}
+use Rattle.bits.specs.Rows.{Row}
+use Rattle.gf2.specs.Rows.{hasAt, has}
 use Rattle.gf2.specs.Solve.{top, lead}
 use Rattle.gf2.specs.Inner.{used}
 use Rattle.gf2.proofs.Rows.{has-is}

@@ -13,7 +13,8 @@ use Rattle.bits.specs.Vectors.{_⊕_, odd}
 use Rattle.bits.specs.Words.{oddOf, wordBits}
 use Rattle.bits.proofs.Xor.{⊕-swap}
 use Rattle.bits.proofs.WordBits.{odd-xor, length-wordBits, odd-wordBits}
-use Rattle.gf2.specs.Rows.{Row, hasAt}
+use Rattle.bits.specs.Rows.{Row}
+use Rattle.gf2.specs.Rows.{hasAt}
 use Rattle.gf2.specs.System.{Hom, dot, unpack, parity}
 use Rattle.gf2.proofs.Rows.{getD-⊻, has-is}
 use Rattle.gf2.proofs.Fill.{dot-append}

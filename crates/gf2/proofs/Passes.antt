@@ -14,7 +14,8 @@ use lib.Seq.{getD-set-same, getD-set-other}
 use Rattle.bits.specs.Vectors.{_⊕_, pick}
 use Rattle.bits.proofs.Xor.{⊕-false}
 use Rattle.bits.proofs.Tests.{eq-or-ne}
-use Rattle.gf2.specs.Rows.{Row, _⊻_, has, clearAt, clear, at}
+use Rattle.bits.specs.Rows.{Row, _⊻_}
+use Rattle.gf2.specs.Rows.{has, clearAt, clear, at}
 use Rattle.gf2.specs.Solve.{lead, Sys, sys, pass, step, steps, solve}
 use Rattle.gf2.specs.System.{Each}
 use Rattle.gf2.proofs.Rows.{has-⊻}

@@ -10,7 +10,8 @@ use mathlib.Core.List.{List, [], _∷_}
 use lib.ListN.{length, length-replicate}
 use lib.Dec.{eqb, eqb·zero-suc, eqb·suc-zero, eqb·suc-suc}
 use Rattle.bits.specs.Vectors.{_⊕_, pick}
-use Rattle.gf2.specs.Rows.{Row, _⊻_, at}
+use Rattle.bits.specs.Rows.{Row, _⊻_}
+use Rattle.gf2.specs.Rows.{at}
 use Rattle.gf2.specs.Solve.{solve}
 use Rattle.gf2.specs.System.{Each, Wide, zeroRow, sumOf, marks}
 use Rattle.gf2.proofs.Rows.{⊻-comm, ⊻-assoc, ⊻-left-comm, ⊻-self, zero-⊻, length-⊻, has-⊻}

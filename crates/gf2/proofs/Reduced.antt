@@ -15,7 +15,8 @@ use lib.Dec.{eqb, eqb·suc-zero}
 use Rattle.bits.specs.Vectors.{_⊕_, bit, pick, count}
 use Rattle.bits.proofs.Tests.{not-both, eq-or-ne}
 use Rattle.bits.proofs.WordBits.{no-bits, zero-bit}
-use Rattle.gf2.specs.Rows.{Row, _⊻_, hasAt, has, clearAt, clear, at}
+use Rattle.bits.specs.Rows.{Row, _⊻_}
+use Rattle.gf2.specs.Rows.{hasAt, has, clearAt, clear, at}
 use Rattle.gf2.specs.Solve.{lead, Sys, sys, pass, solve}
 use Rattle.gf2.specs.System.{led, Cleared, Reduced, Distinct}
 use Rattle.gf2.proofs.Tally.{tally, tally-ext, count-tally}

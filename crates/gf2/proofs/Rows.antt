@@ -13,7 +13,8 @@ use lib.Bits.{bitXor, xor-zero-r, xor-comm, xor-self}
 use Rattle.bits.specs.Vectors.{_⊕_}
 use Rattle.bits.proofs.Words.{xor-assoc}
 use Rattle.bits.proofs.WordBits.{hasBit-xor}
-use Rattle.gf2.specs.Rows.{Row, _⊻_, hasAt, has}
+use Rattle.bits.specs.Rows.{Row, _⊻_}
+use Rattle.gf2.specs.Rows.{hasAt, has}
 use Rattle.gf2.specs.System.{zeroRow}
 
 -- ---- laws

@@ -22,7 +22,8 @@ use Rattle.bits.specs.Vectors.{_⊕_, pick, any, count, allBits, before}
 use Rattle.bits.proofs.Xor.{eq-⊕}
 use Rattle.bits.proofs.Tests.{bool-ext, not-both, count-ext}
 use Rattle.bits.proofs.Rising.{any-bits, bits-any}
-use Rattle.gf2.specs.Rows.{Row, has, at}
+use Rattle.bits.specs.Rows.{Row}
+use Rattle.gf2.specs.Rows.{has, at}
 use Rattle.gf2.specs.Solve.{lead, solve}
 use Rattle.gf2.specs.System.{Within, Hom, Distinct, dot, value, solves, consistent, owner, completed, unit}
 use Rattle.gf2.proofs.Leads.{lead-holds, lead-⊻-le}

@@ -14,7 +14,8 @@ use lib.Bits.{bitXor}
 use lib.Dec.{eqb}
 use borrow.Author.Tests.{eq-eqb, ne-eqb}
 use Rattle.bits.specs.Words.{bitAt}
-use Rattle.gf2.specs.Rows.{Row, _⊻_, hasAt, clearAt}
+use Rattle.bits.specs.Rows.{Row, _⊻_}
+use Rattle.gf2.specs.Rows.{hasAt, clearAt}
 use Rattle.gf2.specs.Inner.{over}
 use Rattle.gf2.proofs.Rows.{getD-⊻, length-⊻}
 use Rattle.gf2.proofs.Cut.{length-part, getD-part, pred-mul}

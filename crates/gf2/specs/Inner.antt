@@ -6,7 +6,7 @@ use mathlib.Core.Bool.{Bool, not}
 use mathlib.Core.List.{List, _++_}
 use lib.ListN.{take, drop, getD}
 use lib.Dec.{eqb}
-use Rattle.gf2.specs.Rows.{Row}
+use Rattle.bits.specs.Rows.{Row}
 
 -- whether word t from `at` on is not 0
 abbrev pub used : List ℕ → ℕ → ℕ → Bool

@@ -1,6 +1,5 @@
--- Rows of words: their XOR, their bits, and the rows of a long list of words.
+-- Rows of words: their bits, and the rows of a long list of words.
 -- Bit b of a row is bit b % 64 of its word b / 64.
---     x ⊻ y                     the XOR, word by word
 --     hasAt k j x, has b x      bit j of word k of x; bit b of x
 --     clearAt k j e x, clear b e x     x, with e added if x has the bit
 --     rows w n l, rowsOf w l    the first n rows of w words of l; all whole rows
@@ -9,19 +8,9 @@ use Prim.Native.Nat.{ℕ, zero, suc, _/_, _%_}
 use mathlib.Core.Bool.{Bool}
 use mathlib.Core.List.{List, [], _∷_, _++_}
 use lib.ListN.{length, take, drop, getD}
-use lib.Bits.{bitXor}
 use Rattle.bits.specs.Vectors.{pick}
+use Rattle.bits.specs.Rows.{Row, _⊻_}
 use Rattle.bits.specs.Words.{hasBit}
-
-abbrev pub Row : Type 0
-Row = List ℕ
-
--- word by word, as long as the longer
-infixl 40 _⊻_
-unfoldable pub _⊻_ : Row → Row → Row
-[] ⊻ y = y
-(a ∷ x) ⊻ [] = a ∷ x
-(a ∷ x) ⊻ (b ∷ y) = bitXor a b ∷ (x ⊻ y)
 
 -- bit j of word k
 unfoldable pub hasAt : ℕ → ℕ → Row → Bool

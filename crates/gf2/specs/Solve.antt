@@ -12,7 +12,8 @@ use mathlib.Core.List.{List, map}
 use lib.ListN.{length, set}
 use lib.Dec.{ltb, eqb}
 use Rattle.bits.specs.Vectors.{pick}
-use Rattle.gf2.specs.Rows.{Row, has, clear, rowsOf, flat, at}
+use Rattle.bits.specs.Rows.{Row}
+use Rattle.gf2.specs.Rows.{has, clear, rowsOf, flat, at}
 use Rattle.gf2.specs.declared.Outcome.{Outcome}
 use Rattle.gf2.specs.declared.Outcome.the-variants.{Misfit, Rank}
 

@@ -19,7 +19,8 @@ use lib.ListN.{length, getD, set, replicate}
 use lib.Dec.{eqb}
 use Rattle.bits.specs.Vectors.{_⊕_, pick, all}
 use Rattle.bits.specs.Words.{oddOf, wordBits}
-use Rattle.gf2.specs.Rows.{Row, _⊻_, has, at}
+use Rattle.bits.specs.Rows.{Row, _⊻_}
+use Rattle.gf2.specs.Rows.{has, at}
 use Rattle.gf2.specs.Solve.{lead}
 
 -- ---- rows

@@ -5,7 +5,8 @@ ghost use Prim.Native.Nat.{_+_, _*_, _≤_, _<_};
 ghost use lib.ListN.{length, take, drop};
 ghost use lib.Seq.{paste};
 ghost use mathlib.Core.List.{_++_};
-ghost use Rattle.gf2.specs.Rows.{_⊻_, clearAt, rows};
+ghost use Rattle.bits.specs.Rows.{_⊻_};
+ghost use Rattle.gf2.specs.Rows.{clearAt, rows};
 ghost use Rattle.gf2.specs.Solve.{top, sys, step, solve};
 ghost use Rattle.gf2.specs.Inner.{used, over};
 

@@ -1,7 +1,8 @@
 -- What must be left of the systems of `held`, computed from the definitions that the promise of `eliminate` names.
 use mathlib.Core.Path.{_≡_, refl}
 use mathlib.Core.List.{[], _∷_}
-use Rattle.gf2.specs.Rows.{_⊻_, hasAt, clearAt, rows, flat}
+use Rattle.bits.specs.Rows.{_⊻_}
+use Rattle.gf2.specs.Rows.{hasAt, clearAt, rows, flat}
 use Rattle.gf2.specs.Solve.{top, pass, steps, solve, done, fits, solved}
 use Rattle.gf2.specs.declared.Outcome.the-variants.{Misfit, Rank}
 

@@ -4,7 +4,8 @@ use native.Mathlib.Omega.{arith}
 use mathlib.Core.Bool.{Bool, true, false}
 use mathlib.Core.List.{List, [], _∷_}
 use Rattle.bits.specs.Vectors.{pick}
-use Rattle.gf2.specs.Rows.{Row, _⊻_, hasAt, has, clearAt, rows, at}
+use Rattle.bits.specs.Rows.{Row, _⊻_}
+use Rattle.gf2.specs.Rows.{hasAt, has, clearAt, rows, at}
 use Rattle.gf2.specs.Solve.{top, pass, steps, solve}
 use Rattle.gf2.specs.System.{consistent}
 use Rattle.gf2.proofs.Rows.{has-⊻}

@@ -11,7 +11,8 @@ use lib.ListN.{length}
 use lib.Dec.{eqb, ltb}
 use borrow.Author.Tests.{ne-eqb, lt-ltb, le-ltb}
 use Rattle.bits.specs.Vectors.{pick}
-use Rattle.gf2.specs.Rows.{Row, has, rows, rowsOf, at}
+use Rattle.bits.specs.Rows.{Row}
+use Rattle.gf2.specs.Rows.{has, rows, rowsOf, at}
 use Rattle.gf2.specs.Solve.{solve, done, fits, solved}
 use Rattle.gf2.specs.System.{consistent}
 use Rattle.gf2.specs.declared.Outcome.{Outcome}

@@ -7,7 +7,7 @@ use mathlib.Core.List.{List}
 use lib.Bits.{bitXor}
 use lib.ListN.{length, take, drop, set, getD, length-set}
 use lib.Seq.{paste, paste-zero}
-use Rattle.gf2.specs.Rows.{_⊻_}
+use Rattle.bits.specs.Rows.{_⊻_}
 use Rattle.gf2.proofs.Walk.{add-turn}
 use Rattle.gf2.proofs.Cut.{length-part, getD-part}
 use Rattle.gf2.proofs.sweep.add_across.Statement.{statement}

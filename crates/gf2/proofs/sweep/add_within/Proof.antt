@@ -5,7 +5,7 @@ use native.Mathlib.Omega.{arith}
 use borrow.Author.Needs.{needs}
 use lib.ListN.{length, take, drop, length-set}
 use lib.Seq.{paste, paste-zero}
-use Rattle.gf2.specs.Rows.{_⊻_}
+use Rattle.bits.specs.Rows.{_⊻_}
 use Rattle.gf2.proofs.Walk.{add-turn-within}
 use Rattle.gf2.proofs.sweep.add_within.Statement.{statement}
 use Rattle.gf2.proofs.sweep.add_within.Tie as tie

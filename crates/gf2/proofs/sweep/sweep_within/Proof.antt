@@ -4,7 +4,8 @@ use mathlib.Core.Logic.{_⊎_, inl, inr, ⊎-elim}
 use Prim.Native.Nat.{_+_, _*_, _≤_}
 use native.Mathlib.Omega.{arith}
 use lib.ListN.{length, take, drop}
-use Rattle.gf2.specs.Rows.{Row, _⊻_, clearAt}
+use Rattle.bits.specs.Rows.{Row, _⊻_}
+use Rattle.gf2.specs.Rows.{clearAt}
 use Rattle.gf2.proofs.Walk.{togo, Turn, turn-length, turn-togo, turn-apart, apart-first, apart-next, togo-none}
 use Rattle.gf2.proofs.Cut.{length-part, pred-mul}
 use borrow.Author.Needs.{needs}

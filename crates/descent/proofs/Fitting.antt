@@ -1,0 +1,115 @@
+-- The test of what a caller hands over, in the values that the code has by then: size, N; whole, N rows of w words.
+--     size-made, whole-fits            N, and N rows of w words, within a machine word
+--     shaped-.., roomy-.., filled-..   each test of the code, and what the definition then says
+--     fitting-..                       the whole test; what holds where all fits
+use mathlib.Core.Path.{_≡_, refl, sym, ap, ap₂, _∙_}
+use Prim.Native.Nat.{ℕ, _*_, _^_, _%_, _≤_, _<_}
+use native.Mathlib.Omega.{arith}
+use native.Mathlib.Nat.{one-mul, mod-eq-of-lt, mul-le-mul-right}
+use mathlib.Core.Bool.{Bool, true, false, _&&_, not}
+use lib.Dec.{eqb, leb, ltb}
+use lib.Pow.{pow-mono, pow-lt}
+use mir.Val.{Fits}
+use mir.Syntax.{w64}
+use borrow.Author.Tests.{ltb-true, leb-true, eqb-true, lt-ltb, le-ltb, le-leb, lt-leb, eq-eqb, ne-eqb, not-true}
+use Rattle.bits.proofs.Tests.{and-l, and-r}
+use Rattle.meaning.specs.Limits.{largestN, recordBytes, maskBytes}
+use Rattle.descent.specs.Descending.{widest, shaped, roomy, filled, fitting, Ready}
+
+pub size-made : (n : ℕ) → n < 64 → 1 * 2 ^ n % 18446744073709551616 ≡ 2 ^ n
+size-made n h = rw (one-mul (2 ^ n)) (mod-eq-of-lt (pow-lt {i = n} {j = 64} h))
+
+pub whole-fits : (n size w : ℕ) → n ≤ largestN → w ≤ widest → size ≡ 2 ^ n → Fits w64 (size * w)
+unfolding largestN widest
+whole-fits n size w h k e =
+    let p = pow-mono {i = n} {j = 7} h in
+    let q : size ≤ 128 = omega arith in
+    let r : size * w ≤ 128 * w = mul-le-mul-right w q in
+    omega arith
+
+pub shaped-large : (n s d : ℕ) → largestN < n → shaped n s d ≡ false
+unfolding shaped
+shaped-large n s d h = rw (lt-leb n largestN h)
+
+module _ (n s d : ℕ) (h : n ≤ largestN) (size : ℕ) (e : size ≡ 2 ^ n) where
+  pub shaped-sheet : (s ≡ size * recordBytes → ⊥) → shaped n s d ≡ false
+  unfolding shaped
+  shaped-sheet q = rw (le-leb n largestN h, ← e, ne-eqb s (size * recordBytes) q)
+
+  pub shaped-word : s ≡ size * recordBytes → shaped n s d ≡ eqb d size
+  unfolding shaped
+  shaped-word q = rw (le-leb n largestN h, ← e, eq-eqb s (size * recordBytes) q)
+
+module _ (most c w : ℕ) where
+  pub roomy-wide : widest < w → roomy most c w ≡ false
+  unfolding roomy
+  roomy-wide h = rw (lt-leb w widest h)
+
+  pub roomy-full : w ≤ widest → w ≤ c → roomy most c w ≡ false
+  unfolding roomy
+  roomy-full h q = rw (le-leb w widest h, le-ltb c w q)
+
+  pub roomy-most : w ≤ widest → c < w → roomy most c w ≡ leb most (64 * c)
+  unfolding roomy
+  roomy-most h q = rw (le-leb w widest h, lt-ltb c w q)
+
+module _ (n w v u e size : ℕ) (es : size ≡ 2 ^ n) where
+  pub filled-vals : (v ≡ size * w → ⊥) → filled n w v u e ≡ false
+  unfolding filled
+  filled-vals q = rw (← es, ne-eqb v (size * w) q)
+
+  pub filled-us : v ≡ size * w → (u ≡ size * w → ⊥) → filled n w v u e ≡ false
+  unfolding filled
+  filled-us p q = rw (← es, eq-eqb v (size * w) p, ne-eqb u (size * w) q)
+
+  pub filled-eqs : v ≡ size * w → u ≡ size * w → filled n w v u e ≡ eqb e (size * w)
+  unfolding filled
+  filled-eqs p q = rw (← es, eq-eqb v (size * w) p, eq-eqb u (size * w) q)
+
+module _ (n s d most c w v u e : ℕ) {t : Bool} where
+  pub fitting-shaped : t ≡ shaped n s d → not t ≡ true → fitting n s d most c w v u e ≡ false
+  unfolding fitting
+  fitting-shaped p q = rw (sym p ∙ not-true t q)
+
+  pub fitting-roomy : shaped n s d ≡ true → t ≡ roomy most c w → not t ≡ true → fitting n s d most c w v u e ≡ false
+  unfolding fitting
+  fitting-roomy h p q = rw (h, sym p ∙ not-true t q)
+
+pub fitting-filled : (n s d most c w v u e : ℕ) → shaped n s d ≡ true → roomy most c w ≡ true → fitting n s d most c w v u e ≡ filled n w v u e
+unfolding fitting
+fitting-filled n s d most c w v u e h k = rw (h, k)
+
+-- ---- where all fits
+
+pub shaped-true : (n s d : ℕ) → shaped n s d ≡ true → (n ≤ largestN) × (s ≡ 2 ^ n * recordBytes) × (d ≡ 2 ^ n)
+unfolding shaped
+shaped-true n s d h =
+    let k = and-r (leb n largestN) _ h in
+    (leb-true n largestN (and-l _ _ h), eqb-true s (2 ^ n * recordBytes) (and-l _ _ k), eqb-true d (2 ^ n) (and-r (eqb s (2 ^ n * recordBytes)) _ k))
+
+pub roomy-true : (most c w : ℕ) → roomy most c w ≡ true → (w ≤ widest) × (c < w) × (most ≤ 64 * c)
+unfolding roomy
+roomy-true most c w h =
+    let k = and-r (leb w widest) _ h in
+    (leb-true w widest (and-l _ _ h), ltb-true c w (and-l _ _ k), leb-true most (64 * c) (and-r (ltb c w) _ k))
+
+pub fitting-true : (n s d most c w v u e : ℕ) → fitting n s d most c w v u e ≡ true → Ready n s d c w v u e × (most ≤ 64 * c)
+unfolding fitting filled
+fitting-true n s d most c w v u e h =
+    let r = and-r (shaped n s d) _ h in
+    let f = and-r (roomy most c w) _ r in
+    let g = and-r (eqb v (2 ^ n * w)) _ f in
+    let (a, b, l) = shaped-true n s d (and-l _ _ h) in
+    let (x, y, z) = roomy-true most c w (and-l _ _ r) in (
+      record {
+        small = a;
+        records = b;
+        symbols = l;
+        narrow = x;
+        constant = y;
+        rows-v = eqb-true v (2 ^ n * w) (and-l _ _ f);
+        rows-u = eqb-true u (2 ^ n * w) (and-l _ _ g);
+        rows-e = eqb-true e (2 ^ n * w) (and-r (eqb u (2 ^ n * w)) _ g);
+      },
+      z,
+    )

@@ -1,0 +1,10 @@
+pub mod Slots
+pub mod Rules
+pub mod Leaves
+pub mod Halves
+pub mod Asks
+pub mod Placing
+pub mod Fitting
+pub mod Counting
+pub mod Running
+pub mod Promise

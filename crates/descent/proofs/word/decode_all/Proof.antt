@@ -1,0 +1,75 @@
+use mathlib.Core.Path.{_∙_}
+use Prim.Native.Nat.{_*_, _^_, _≤_}
+use native.Mathlib.Omega.{arith}
+use native.Mathlib.Nat.{mul-le-mul-right}
+use borrow.Author.Needs.{needs}
+use Rattle.meaning.specs.Limits.{largestN}
+use Rattle.meaning.proofs.Divide.{R}
+use Rattle.descent.specs.Descending.{widest}
+use Rattle.descent.proofs.Running.{ready-ask, many-most, filled-up}
+use Rattle.descent.proofs.word.decode_all.Statement.{statement}
+use Rattle.descent.proofs.word.decode_all.Tie as tie
+
+decode-word-requires : tie.Need-decode-word-requires
+decode-word-requires c κs =
+    let S = c .before .before .before .before .before .before .before .before .before .before in
+    ready-ask _ _ _ _ _ _ _ _ (S .args .marks .now) (S .pre .0) (S .pre .1 .0) (S .pre .1 .1)
+
+mul-used : tie.Need-mul-used
+unfolding widest largestN
+mul-used c =
+    let S = c .before .before .before .before .before .before .before .before .before .before .before .before .before .before .before .before .before .before .before in
+    let A = S .args in
+    let D = c .before .before .before .before .before .before .before .before .decode-word in
+    let R = S .pre .0 in
+    let k = many-most (A .c) (A .w) (A .n) (A .sheet .now) (A .word .now) _ _ _ _ (D .result .eqs) (R .symbols) (D .ensures) in
+    let y : D .result .eqs * A .w ≤ 2 ^ A .n * A .w = mul-le-mul-right (A .w) k in
+    omega (arith, R .rows-e, S .good)
+
+sub-zero : tie.Need-sub-zero
+sub-zero c =
+    let S = c .before .before .before .before .before .before .before .before .before .before .before .before .before .before .before .before .before .before .before .before in
+    let A = S .args in
+    let D = c .before .before .before .before .before .before .before .before .before .decode-word in
+    let R = S .pre .0 in
+    let k = many-most (A .c) (A .w) (A .n) (A .sheet .now) (A .word .now) _ _ _ _ (D .result .eqs) (R .symbols) (D .ensures) in
+    let y : D .result .eqs * A .w ≤ 2 ^ A .n * A .w = mul-le-mul-right (A .w) k in
+    omega (arith, R .rows-e, D .kept .1 .1 .1 .1 .1 .0)
+
+zero-requires : tie.Need-zero-requires
+zero-requires c κs = search needs
+
+same-length : tie.Need-same-length
+same-length c = c .before .before .before .before .before .before .before .before .before .before .before .before .decode-word .kept .1 .1 .0
+
+same-length-2 : tie.Need-same-length-2
+same-length-2 c = c .before .before .before .before .before .before .before .before .before .before .before .before .decode-word .kept .1 .1 .1 .0
+
+same-length-3 : tie.Need-same-length-3
+same-length-3 c = c .before .before .before .before .before .before .before .before .before .before .before .before .decode-word .kept .1 .1 .1 .1 .0
+
+same-length-4 : tie.Need-same-length-4
+same-length-4 c = c .before .before .zero .kept .0 ∙ c .before .before .before .before .before .before .before .before .before .before .before .before .decode-word .kept .1 .1 .1 .1 .1 .0
+
+returns : tie.Need-returns
+returns c =
+    let S = c .before .before .before .before .before .before .before .before .before .before .before .before .before .before .before .before .before .before .before .before .before .before .before in
+    let A = S .args in
+    let D = c .before .before .before .before .before .before .before .before .before .before .before .before .decode-word in
+    let Z = c .before .before .zero in
+    let R = S .pre .0 in
+    filled-up (A .c) (A .w) (A .n) (A .sheet .now) (A .word .now) _ _ _ _ _ (R .symbols) (D .ensures) _ (D .kept .1 .1 .0 ∙ R .rows-v) (D .kept .1 .1 .1 .1 .0 ∙ R .rows-u) (D .kept .1 .1 .1 .1 .1 .0 ∙ R .rows-e) (Z .ensures)
+
+pub decode-all-spec : {M : Type 1} → statement M
+decode-all-spec =
+    tie.close
+    (tie.spec
+    decode-word-requires
+    mul-used
+    sub-zero
+    zero-requires
+    same-length
+    same-length-2
+    same-length-3
+    same-length-4
+    returns)

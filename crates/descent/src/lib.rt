@@ -1,0 +1,63 @@
+// The decoder's descent: rows of a word's symbols, of u and of the equations, over any number of words to a row.
+ghost use mathlib.Core.Path.{_≡_};
+ghost use Rattle.descent.specs.Descending.{descended, descending};
+
+mod block;
+mod count;
+mod leaf;
+mod limits;
+mod record;
+mod rule;
+mod word;
+
+// How a descent ended.
+pub enum Descent {
+    // What was handed over does not fit together. Nothing was changed.
+    Misfit,
+    // There are g unknowns, more than were allowed. Nothing was changed.
+    Over { g: usize },
+    // There are g unknowns, and m equations were found.
+    Done { g: usize, m: usize },
+}
+
+// Decodes a word of N = 2 to the n symbols (0, 1, above 1 erased) under the rules of a sheet of N records, by halves.
+// A row has w words, at most 65536: c words of coefficients, unknown k at bit k mod 64 of word k div 64, then the constant at
+// bit 0 of word c, then words that stay 0. The unknowns are the open free positions, numbered from the first.
+// Answers Done with the numbers of unknowns and of equations. Then `vals` holds the N symbols' rows, `us` the N rows of u, and
+// `eqs` the equations, each to be 0, followed by zeros.
+// Answers Over, and changes nothing, where there are more than `most` unknowns.
+// Answers Misfit, and changes nothing, unless n is at most 7, the sheet has 20 N bytes, the word N, c is below w, `most` is at
+// most 64 c, and each of the three slices has N w words.
+pub fn descend(
+    n: usize,
+    sheet: &[u8],
+    word: &[u8],
+    most: usize,
+    c: usize,
+    w: usize,
+    vals: &mut [u64],
+    us: &mut [u64],
+    eqs: &mut [u64],
+) -> Descent
+    ensures { λ r. ⌜ descended r (now (vals .exit)) (now (us .exit)) (now (eqs .exit)) ≡ descending n (now (sheet .entry)) (now (word .entry)) most c w (now (vals .entry)) (now (us .entry)) (now (eqs .entry)) ⌝ }
+{
+    if !limits::fits(
+        n,
+        sheet.len(),
+        word.len(),
+        most,
+        c,
+        w,
+        vals.len(),
+        us.len(),
+        eqs.len(),
+    ) {
+        return Descent::Misfit;
+    }
+    let g = count::unknowns(n, sheet, word);
+    if most < g {
+        return Descent::Over { g };
+    }
+    let m = word::run(n, sheet, word, c, w, vals, us, eqs);
+    Descent::Done { g, m }
+}
