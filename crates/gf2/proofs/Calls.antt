@@ -19,7 +19,7 @@ use Rattle.gf2.specs.Solve.{solve, Done, done, fits, solved}
 use Rattle.gf2.specs.System.{Wide}
 use Rattle.gf2.specs.declared.Outcome.{Outcome}
 use Rattle.gf2.specs.declared.Outcome.the-variants.{Misfit, Rank}
-use Rattle.gf2.proofs.Rows.{length-⊻}
+use Rattle.bits.proofs.RowLaws.{length-⊻}
 use Rattle.gf2.proofs.Cut.{wide-rows, rowsOf-flat, whole-rows}
 use Rattle.gf2.proofs.Passes.{span, solve-sized}
 

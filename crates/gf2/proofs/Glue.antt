@@ -19,7 +19,8 @@ use Rattle.gf2.specs.Rows.{hasAt, clearAt, clear, rows, at}
 use Rattle.gf2.specs.Solve.{top, lead, Sys, sys, pass, step, steps, solve, fits, done, solved}
 use Rattle.gf2.specs.Inner.{used, over}
 use Rattle.gf2.specs.declared.Outcome.the-variants.{Misfit, Rank}
-use Rattle.gf2.proofs.Rows.{length-⊻, word-of, place-of}
+use Rattle.bits.proofs.RowLaws.{length-⊻}
+use Rattle.gf2.proofs.Rows.{word-of, place-of}
 use Rattle.gf2.proofs.Cut.{head-len, tail-len, length-rows, flat-rows, len-before, len-row, len-after, whole, rows-cut, row-is}
 use Rattle.gf2.proofs.Highest.{lead-none, lead-some}
 

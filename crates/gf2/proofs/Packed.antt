@@ -16,7 +16,8 @@ use Rattle.bits.proofs.WordBits.{odd-xor, length-wordBits, odd-wordBits}
 use Rattle.bits.specs.Rows.{Row}
 use Rattle.gf2.specs.Rows.{hasAt}
 use Rattle.gf2.specs.System.{Hom, dot, unpack, parity}
-use Rattle.gf2.proofs.Rows.{getD-⊻, has-is}
+use Rattle.bits.proofs.RowLaws.{getD-⊻}
+use Rattle.gf2.proofs.Rows.{has-is}
 use Rattle.gf2.proofs.Fill.{dot-append}
 
 pub parity-hom : (c : ℕ) (z : Row) → Hom (parity c z)

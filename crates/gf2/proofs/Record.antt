@@ -14,7 +14,8 @@ use Rattle.bits.specs.Rows.{Row, _⊻_}
 use Rattle.gf2.specs.Rows.{at}
 use Rattle.gf2.specs.Solve.{solve}
 use Rattle.gf2.specs.System.{Each, Wide, zeroRow, sumOf, marks}
-use Rattle.gf2.proofs.Rows.{⊻-comm, ⊻-assoc, ⊻-left-comm, ⊻-self, zero-⊻, length-⊻, has-⊻}
+use Rattle.bits.proofs.RowLaws.{⊻-comm, ⊻-assoc, length-⊻, nought-⊻}
+use Rattle.gf2.proofs.Rows.{⊻-left-comm, ⊻-self, has-⊻}
 use Rattle.gf2.proofs.Passes.{span}
 
 -- ---- sums of some of the rows
@@ -41,7 +42,7 @@ sumOf-none w (x ∷ e) = sumOf-none w e
 -- the sum of two sums
 sumOf-⊻ : (w : ℕ) (e : List Row) (f g : ℕ → Bool) → Wide w e → sumOf w e f ⊻ sumOf w e g ≡ sumOf w e (λ (k : ℕ). f k ⊕ g k)
 unfolding sumOf
-sumOf-⊻ w [] f g h = zero-⊻ w (zeroRow w) (length-replicate w 0)
+sumOf-⊻ w [] f g h = nought-⊻ w (zeroRow w) (length-replicate w 0)
 sumOf-⊻ w (x ∷ e) f g h =
     go (f 0) (g 0) (sumOf w e (λ (k : ℕ). f (suc k))) (sumOf w e (λ (k : ℕ). g (suc k))) (sumOf w e (λ (k : ℕ). f (suc k) ⊕ g (suc k)))
     (sumOf-⊻ w e (λ (k : ℕ). f (suc k)) (λ (k : ℕ). g (suc k)) (λ i l. h (suc i) (omega arith)))
@@ -49,7 +50,7 @@ sumOf-⊻ w (x ∷ e) f g h =
   where
     go : (a b : Bool) (s t u : Row) → s ⊻ t ≡ u → length u ≡ w → pick a (x ⊻ s) s ⊻ pick b (x ⊻ t) t ≡ pick (a ⊕ b) (x ⊻ u) u
     go true true s t u q m =
-        ⊻-assoc x s (x ⊻ t) ∙ ap (λ (v : Row). x ⊻ v) (⊻-left-comm s x t) ∙ sym (⊻-assoc x x (s ⊻ t)) ∙ ap₂ _⊻_ (⊻-self x w (h 0 (omega arith))) q ∙ zero-⊻ w u m
+        ⊻-assoc x s (x ⊻ t) ∙ ap (λ (v : Row). x ⊻ v) (⊻-left-comm s x t) ∙ sym (⊻-assoc x x (s ⊻ t)) ∙ ap₂ _⊻_ (⊻-self x w (h 0 (omega arith))) q ∙ nought-⊻ w u m
     go true false s t u q m = ⊻-assoc x s t ∙ ap (λ (v : Row). x ⊻ v) q
     go false true s t u q m = ⊻-left-comm s x t ∙ ap (λ (v : Row). x ⊻ v) q
     go false false s t u q m = q
@@ -60,7 +61,7 @@ unfolding sumOf
 sumOf-one w [] i h l = absurd (omega arith)
 sumOf-one w (x ∷ e) zero h l =
     ap (λ (s : Row). x ⊻ s) (sumOf-ext w e (λ (k : ℕ). eqb 0 (suc k)) (λ (k : ℕ). false) (λ k m. eqb·zero-suc k) ∙ sumOf-none w e)
-    ∙ ⊻-comm x (zeroRow w) ∙ zero-⊻ w x (h 0 (omega arith))
+    ∙ ⊻-comm x (zeroRow w) ∙ nought-⊻ w x (h 0 (omega arith))
 sumOf-one w (x ∷ e) (suc i) h l =
     rw (eqb·suc-zero i) (sumOf-ext w e (λ (k : ℕ). eqb (suc i) (suc k)) (eqb i) (λ k m. eqb·suc-suc i k) ∙ sumOf-one w e i (λ j n. h (suc j) (omega arith)) (omega arith))
 
@@ -95,5 +96,5 @@ module _ (c w o : ℕ) (e r : List Row) (we : Wide w e)
             ∙ ap (λ (v : Row). at r i ⊻ v) (sumOf-⊻ w e (marks o x) (marks o y) we ∙ sumOf-ext w e (λ (k : ℕ). marks o x k ⊕ marks o y k) (marks o (x ⊻ y)) (λ k m. sym (has-⊻ (o + k) x y))),
       ))
       given
-      (λ i m. (wr i m, sym (ap (λ (v : Row). at r i ⊻ v) (sumOf-ext w e (marks o (at r i)) (λ (k : ℕ). false) (λ k n. clean i k m n) ∙ sumOf-none w e) ∙ ⊻-comm (at r i) (zeroRow w) ∙ zero-⊻ w (at r i) (wr i m))))
+      (λ i m. (wr i m, sym (ap (λ (v : Row). at r i ⊻ v) (sumOf-ext w e (marks o (at r i)) (λ (k : ℕ). false) (λ k n. clean i k m n) ∙ sumOf-none w e) ∙ ⊻-comm (at r i) (zeroRow w) ∙ nought-⊻ w (at r i) (wr i m))))
       .1 j l .1

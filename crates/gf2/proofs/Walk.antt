@@ -17,7 +17,7 @@ use Rattle.bits.specs.Words.{bitAt}
 use Rattle.bits.specs.Rows.{Row, _⊻_}
 use Rattle.gf2.specs.Rows.{hasAt, clearAt}
 use Rattle.gf2.specs.Inner.{over}
-use Rattle.gf2.proofs.Rows.{getD-⊻, length-⊻}
+use Rattle.bits.proofs.RowLaws.{length-⊻, getD-⊻}
 use Rattle.gf2.proofs.Cut.{length-part, getD-part, pred-mul}
 
 -- ---- a row added, word by word
