@@ -1,9 +1,13 @@
-// Makes sheets as bytes: good ones at random, and one fault of a named kind put into a record.
-// The requests and the tests are made from these.
+// Makes sheets as bytes: good ones at random, and one fault of a named kind put into a record;
+// and words: codewords of any payload, and their losses. The requests and the tests are made
+// from these.
 
+use crate::answer::Answer;
+use crate::calls;
+use crate::code::ERASED;
 use crate::limits::{MASK_BYTES, RECORD_BYTES};
 use crate::rng::Rng;
-use crate::sheet::Record;
+use crate::sheet::{Record, Sheet};
 
 /// The bytes of a sheet.
 pub fn bytes(records: &[Record]) -> Vec<u8> {
@@ -49,14 +53,16 @@ pub const STYLES: [Style; 4] = [
     },
 ];
 
-/// A good sheet of N records with K free positions.
+/// A good sheet of N records with K free positions, drawn at random.
 pub fn good(rng: &mut Rng, length: usize, k: usize, style: Style) -> Vec<u8> {
-    let mut order: Vec<usize> = (0..length).collect();
-    for i in (1..length).rev() {
-        order.swap(i, rng.below(i + 1));
-    }
+    let order = rng.order(length);
+    frozen_at(rng, length, &order[k..], style)
+}
+
+/// A good sheet of N records, frozen at these positions.
+pub fn frozen_at(rng: &mut Rng, length: usize, positions: &[usize], style: Style) -> Vec<u8> {
     let mut records = vec![Record::default(); length];
-    for &i in &order[k..] {
+    for &i in positions {
         let sparse = rng.bit();
         records[i] = Record {
             frozen: true,
@@ -67,6 +73,74 @@ pub fn good(rng: &mut Rng, length: usize, k: usize, style: Style) -> Vec<u8> {
         };
     }
     bytes(&records)
+}
+
+/// Every record that place i may hold.
+fn every_record(i: usize) -> Vec<Record> {
+    let mut list = vec![Record::default()];
+    for constant in [false, true] {
+        for mask in 0..1 << i {
+            list.push(Record {
+                frozen: true,
+                constant,
+                named: (0..i).filter(|j| mask >> j & 1 == 1).collect(),
+            });
+        }
+    }
+    list
+}
+
+/// Every good sheet of N records, for N of 1, 2 and 4.
+pub fn every_sheet(length: usize) -> Vec<Vec<Record>> {
+    let mut list = vec![Vec::new()];
+    for i in 0..length {
+        list = (list.iter())
+            .flat_map(|before: &Vec<Record>| {
+                every_record(i)
+                    .into_iter()
+                    .map(|record| [&before[..], &[record]].concat())
+            })
+            .collect();
+    }
+    list
+}
+
+/// Every word of so many symbols, each below the bound.
+pub fn every_word(length: usize, bound: usize) -> Vec<Vec<u8>> {
+    (0..bound.pow(length as u32))
+        .map(|t| {
+            (0..length)
+                .map(|j| (t / bound.pow(j as u32) % bound) as u8)
+                .collect()
+        })
+        .collect()
+}
+
+pub fn bits(rng: &mut Rng, length: usize) -> Vec<u8> {
+    (0..length).map(|_| rng.below(2) as u8).collect()
+}
+
+/// The codeword of a payload drawn at random.
+pub fn any_codeword(rng: &mut Rng, n: usize, sheet: &[u8], r: usize) -> Vec<u8> {
+    let k = Sheet::read(n, sheet, r).expect("a good sheet").k();
+    let payload = bits(rng, k - r);
+    let mut word = vec![0; 1 << n];
+    let answer = calls::encode(n, sheet, r, &payload, &mut word);
+    assert_eq!(answer, Answer::code(0));
+    word
+}
+
+/// The word with each symbol erased at a chance of `losses` in eight.
+pub fn damaged(rng: &mut Rng, word: &[u8], losses: usize) -> Vec<u8> {
+    word.iter()
+        .map(|&symbol| {
+            if rng.below(8) < losses {
+                ERASED
+            } else {
+                symbol
+            }
+        })
+        .collect()
 }
 
 /// The kinds of fault a record can have.

@@ -28,4 +28,18 @@ impl Rng {
     pub fn bit(&mut self) -> bool {
         self.below(2) == 1
     }
+
+    /// One of a list that is not empty.
+    pub fn pick<T: Copy>(&mut self, list: &[T]) -> T {
+        list[self.below(list.len())]
+    }
+
+    /// The numbers below the length, shuffled.
+    pub fn order(&mut self, length: usize) -> Vec<usize> {
+        let mut order: Vec<usize> = (0..length).collect();
+        for i in (1..length).rev() {
+            order.swap(i, self.below(i + 1));
+        }
+        order
+    }
 }

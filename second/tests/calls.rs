@@ -2,10 +2,10 @@
 // the output as found.
 
 mod common;
-use common::{any_codeword, any_sheet, bits, damaged, decode, numbers, symbols, BEFORE};
+use common::{any_sheet, decode, numbers, symbols, BEFORE};
 use second::answer::Answer;
 use second::calls::{self, ANSWER_BYTES};
-use second::make::{good, STYLES};
+use second::make::{any_codeword, bits, damaged, good, STYLES};
 use second::rng::Rng;
 use second::sheet::Sheet;
 

@@ -2,8 +2,9 @@
 // remainders worked out by hand and by a shift register.
 
 mod common;
-use common::{any_sheet, bits};
+use common::any_sheet;
 use second::code::{checked_sequence, free_bits, keeps, polynomial, remainder, transform};
+use second::make::bits;
 use second::rng::Rng;
 
 fn random(rng: &mut Rng, length: usize) -> Vec<bool> {

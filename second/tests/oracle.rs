@@ -2,67 +2,25 @@
 // and what depends on the losses alone.
 
 mod common;
-use common::{any_codeword, any_sheet, bits, damaged, decode};
-use second::make::bytes;
+use common::{any_sheet, decode};
+use second::make::{any_codeword, bits, bytes, damaged, every_sheet, every_word};
 use second::rng::Rng;
-use second::sheet::{Record, Sheet};
+use second::sheet::Sheet;
 use second::{brute, dense, open};
-
-/// Every record that place i may hold.
-fn records(i: usize) -> Vec<Record> {
-    let mut list = vec![Record::default()];
-    for constant in [false, true] {
-        for mask in 0..1 << i {
-            list.push(Record {
-                frozen: true,
-                constant,
-                named: (0..i).filter(|j| mask >> j & 1 == 1).collect(),
-            });
-        }
-    }
-    list
-}
-
-/// Every good sheet of N records.
-fn sheets(length: usize) -> Vec<Sheet> {
-    let mut list = vec![Vec::new()];
-    for i in 0..length {
-        list = (list.iter())
-            .flat_map(|before| {
-                records(i).into_iter().map(|record| {
-                    let mut longer = before.clone();
-                    longer.push(record);
-                    longer
-                })
-            })
-            .collect();
-    }
-    list.into_iter().map(|records| Sheet { records }).collect()
-}
-
-/// Every word of N symbols 0, 1 and 2.
-fn words(length: usize) -> Vec<Vec<u8>> {
-    (0..3usize.pow(length as u32))
-        .map(|t| {
-            (0..length)
-                .map(|j| (t / 3usize.pow(j as u32) % 3) as u8)
-                .collect()
-        })
-        .collect()
-}
 
 #[test]
 fn every_sheet_and_word_up_to_four() {
     for (n, count) in [(0, 3), (1, 15), (2, 2295)] {
-        let sheets = sheets(1 << n);
+        let sheets = every_sheet(1 << n);
         assert_eq!(sheets.len(), count);
         let mut seen = [0; 3];
-        for sheet in &sheets {
+        for records in sheets {
+            let sheet = &Sheet { records };
             assert_eq!(
                 Sheet::read(n, &bytes(&sheet.records), 0).as_ref(),
                 Ok(sheet)
             );
-            for word in words(1 << n) {
+            for word in every_word(1 << n, 3) {
                 let found = dense::agreeing(sheet, 0, &word);
                 assert_eq!(
                     found,

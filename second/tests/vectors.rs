@@ -2,9 +2,14 @@
 
 mod common;
 use common::{sheet_e, symbols};
+use second::answer::Answer;
+use second::code::{checked_sequence, free_bits, keeps, remainder, transform};
+use second::open;
 use second::protocol::{write_answer, Request};
 use second::requests;
+use second::sheet::Sheet;
 use std::collections::{BTreeMap, BTreeSet};
+use std::sync::OnceLock;
 
 fn bytes_of(request: &Request) -> Vec<u8> {
     let mut bytes = Vec::new();
@@ -119,22 +124,69 @@ fn broken(i: usize, length: usize, record: &[u8]) -> BTreeSet<u8> {
     (0..9).filter(|&rule| rules[rule as usize]).collect()
 }
 
+/// A request with its answer and its output.
+type Answered = (Request, Answer, Vec<u8>);
+
+/// Every request of an op, answered once.
+fn answered(op: u16) -> &'static [Answered] {
+    static ALL: [OnceLock<Vec<Answered>>; 5] = [const { OnceLock::new() }; 5];
+    ALL[usize::from(op)].get_or_init(|| {
+        let list = requests::of(op).into_iter();
+        list.map(|request| {
+            let (answer, out) = request.perform();
+            (request, answer, out)
+        })
+        .collect()
+    })
+}
+
+/// Every n with every check length a good sheet can have.
+fn choices() -> BTreeSet<(u16, u16)> {
+    (0..=7)
+        .flat_map(|n| [(n, 0), (n, 6), (n, 11)])
+        .filter(|&(n, r)| r < 1 << n)
+        .collect()
+}
+
 #[test]
-fn the_requests_reach_what_they_must() {
-    let list = requests::all();
-    let size: usize = list.iter().map(|request| bytes_of(request).len()).sum();
-    assert!((2_400..=3_000).contains(&list.len()), "{}", list.len());
-    assert!(size < 2_500_000, "{size}");
+fn the_vectors_follow_their_ops() {
+    assert!(requests::OPS.is_sorted_by(|a, b| a < b));
+    let lists = requests::OPS.map(requests::of);
+    assert_eq!(requests::all(), lists.concat());
+}
+
+#[test]
+fn every_list_has_its_size() {
+    let mut sizes = Vec::new();
+    let mut counts = Vec::new();
+    for op in 0..5 {
+        let list = requests::of(op);
+        let mut size = 0;
+        for request in &list {
+            assert_eq!(request.op, op);
+            let bytes = bytes_of(request);
+            assert_eq!(Request::read(&mut &bytes[..]).as_ref(), Some(request));
+            size += bytes.len();
+        }
+        sizes.push(size);
+        counts.push(list.len());
+    }
+    assert!((2_400..=3_000).contains(&counts[0]), "{counts:?}");
+    assert!((5_000..=5_600).contains(&(counts[1] + counts[3])));
+    assert!((20_000..=22_000).contains(&counts[2]), "{counts:?}");
+    assert!((300..=500).contains(&counts[4]), "{counts:?}");
+    assert!(sizes[0] + sizes[1] + sizes[3] < 7_000_000, "{sizes:?}");
+    assert!(sizes[2] < 16_000_000, "{sizes:?}");
+}
+
+#[test]
+fn sheets_reach_what_they_must() {
+    let list = answered(0);
     let mut good = BTreeSet::new();
     let mut kinds: BTreeMap<(u16, u16), BTreeSet<u8>> = BTreeMap::new();
     let mut bits = BTreeSet::new();
     let mut buffers = 0;
-    for request in &list {
-        assert_eq!(
-            Request::read(&mut &bytes_of(request)[..]).as_ref(),
-            Some(request)
-        );
-        let (answer, out) = request.perform();
+    for (request, answer, out) in list {
         assert!(out.iter().all(|&byte| byte == 165));
         buffers += usize::from(!out.is_empty());
         match answer.code {
@@ -177,4 +229,472 @@ fn the_requests_reach_what_they_must() {
     }
     assert_eq!(bits.len(), 128);
     assert!(buffers > 200 && buffers < list.len() / 4);
+}
+
+/// N by n where it is allowed, else by the records there are.
+fn length_of(request: &Request) -> usize {
+    if request.n <= 7 {
+        1 << request.n
+    } else {
+        request.a.len() / 20
+    }
+}
+
+fn kinds_of(request: &Request) -> Vec<u8> {
+    let records = request.a.chunks(20).take(length_of(request));
+    records.map(|record| record[0]).collect()
+}
+
+/// g, an unread or bad symbol counted as read.
+fn unknowns(request: &Request) -> usize {
+    let mut word = request.b.clone();
+    word.resize(length_of(request), 0);
+    let open = open::open_positions(&word);
+    let kinds = kinds_of(request);
+    (open.iter().zip(kinds))
+        .filter(|(&open, kind)| open && *kind == 0)
+        .count()
+}
+
+/// The refusals of encode, decode and read-back that apply, each looked at alone. Under a wrong
+/// check length, payload and room count as right if they are so for any other.
+fn applying(request: &Request) -> BTreeSet<u16> {
+    let length = length_of(request);
+    let k = kinds_of(request).iter().filter(|&&kind| kind == 0).count();
+    let suits = |r: usize| r == 0 || ([6, 11].contains(&r) && k > r);
+    let r = usize::from(request.r);
+    let payloads: Vec<usize> = if suits(r) {
+        vec![k - r]
+    } else {
+        let others = [0, 6, 11].into_iter().filter(|&r| suits(r));
+        others.map(|r| k - r).collect()
+    };
+    let (lengths, rooms, largest) = match request.op {
+        1 => (payloads, vec![length], 1),
+        2 => (vec![length], vec![3 * length], 2),
+        _ => (vec![length], payloads, 1),
+    };
+    let bad_record = (request.a.chunks_exact(20).enumerate())
+        .any(|(i, record)| !broken(i, length, record).is_empty());
+    let ceiling = usize::from(request.ceiling);
+    let conditions = [
+        request.n > 7 || request.a.len() != 20 * length,
+        bad_record,
+        !suits(r),
+        !lengths.contains(&request.b.len()),
+        request.b.iter().any(|&symbol| symbol > largest),
+        rooms.iter().all(|&needed| request.o < needed),
+        request.op == 2 && ceiling > 63,
+        request.op == 2 && unknowns(request) > ceiling,
+    ];
+    (11..=18)
+        .filter(|code| conditions[code - 11])
+        .map(|code| code as u16)
+        .collect()
+}
+
+/// Every refusal comes first, alone and before every later one, at every n where it can.
+fn hold_refusals(op: u16, last: u16, impossible: fn(u16, u16, u16) -> bool) {
+    let mut alone = BTreeSet::new();
+    let mut before = BTreeSet::new();
+    for (request, answer, out) in answered(op) {
+        let codes = applying(request);
+        let Some(&first) = codes.first() else {
+            assert!(answer.code <= 2, "{request:?}");
+            continue;
+        };
+        assert_eq!(answer.code, first, "{request:?}");
+        assert!(out.iter().all(|&byte| byte == 165), "untouched");
+        let n = request.n % 256;
+        if codes.len() == 1 {
+            alone.insert((n, first));
+        }
+        before.extend(codes.iter().map(|&code| (n, first, code)));
+    }
+    for n in 0..=7 {
+        for first in 11..=last {
+            assert!(alone.contains(&(n, first)), "n {n}: {first} alone");
+            for later in first + 1..=last {
+                let seen = before.contains(&(n, first, later));
+                assert_eq!(
+                    seen,
+                    !impossible(n, first, later),
+                    "n {n}: {first}, {later}"
+                );
+            }
+        }
+    }
+}
+
+#[test]
+fn every_refusal_in_its_order() {
+    hold_refusals(1, 16, |_, _, _| false);
+    hold_refusals(3, 16, |_, _, _| false);
+    // g is above 64 in 128 symbols alone; of one symbol, a bad one leaves none to be lost
+    hold_refusals(2, 18, |n, first, later| match (first, later) {
+        (17, 18) => n < 7,
+        (15, 18) => n == 0,
+        _ => false,
+    });
+}
+
+/// Where a place stands in a length: first, between or last.
+fn kind_of_place(place: u16, length: usize) -> u8 {
+    match usize::from(place) {
+        0 => 0,
+        place if place + 1 == length => 2,
+        _ => 1,
+    }
+}
+
+/// The borders of b and of the output, and symbols above the largest at each kind of place.
+fn hold_borders(op: u16, largest: u8) {
+    let mut checks = BTreeSet::new();
+    let mut symbols = BTreeSet::new();
+    let mut lengths = BTreeSet::new();
+    let mut rooms = BTreeSet::new();
+    for (request, answer, _) in answered(op) {
+        let Ok(sheet) = Sheet::read(request.n.into(), &request.a, request.r.into()) else {
+            checks.extend((answer.code == 13).then_some(request.r));
+            continue;
+        };
+        let payload = sheet.k() - usize::from(request.r);
+        let (length, room) = match op {
+            1 => (payload, sheet.length()),
+            2 => (sheet.length(), 3 * sheet.length()),
+            _ => (sheet.length(), payload),
+        };
+        match answer.code {
+            14 => {
+                lengths.insert((request.n, request.b.len() as isize - length as isize));
+            }
+            15 => {
+                let value = request.b[usize::from(answer.place)];
+                symbols.insert((kind_of_place(answer.place, length), value));
+            }
+            _ => {
+                rooms.insert((request.n, request.o as isize - room as isize));
+            }
+        }
+    }
+    for r in (1..=13).chain([255, 256, 262, 267, 65535]) {
+        assert!(checks.contains(&r), "op {op}, r {r}");
+    }
+    for place in 0..3 {
+        for value in [largest + 1, 255] {
+            assert!(
+                symbols.contains(&(place, value)),
+                "op {op}, {place} {value}"
+            );
+        }
+    }
+    for n in 0..=7 {
+        for off in [-1, 1] {
+            assert!(lengths.contains(&(n, off)), "op {op}, n {n}, {off}");
+        }
+        for off in -1..=2 {
+            assert!(rooms.contains(&(n, off)), "op {op}, n {n}, {off}");
+        }
+    }
+}
+
+#[test]
+fn every_border() {
+    hold_borders(1, 1);
+    hold_borders(2, 2);
+    hold_borders(3, 1);
+}
+
+/// The kinds of good sheet seen: constants, masks, both, and a mask of all that came before.
+fn kinds_of_sheet(sheet: &Sheet) -> Vec<u8> {
+    let constant = sheet.records.iter().any(|record| record.constant);
+    let named = sheet.records.iter().any(|record| !record.named.is_empty());
+    let dense =
+        (sheet.records.iter().enumerate()).any(|(i, record)| i > 0 && record.named.len() == i);
+    let kinds = [
+        !constant && !named,
+        constant && !named,
+        !constant && named,
+        constant && named,
+        dense,
+    ];
+    (0..5).filter(|&kind| kinds[usize::from(kind)]).collect()
+}
+
+#[test]
+fn payloads_reach_what_they_must() {
+    let mut good = BTreeSet::new();
+    let mut kinds = BTreeSet::new();
+    let mut empty = BTreeSet::new();
+    for (request, answer, out) in answered(1) {
+        assert_eq!([answer.g, answer.m, answer.d], [0; 3]);
+        if answer.code == 0 {
+            let (word, rest) = out.split_at(1 << request.n);
+            assert!(word.iter().all(|&symbol| symbol <= 1));
+            assert!(rest.iter().all(|&byte| byte == 165));
+            let sheet = Sheet::read(request.n.into(), &request.a, request.r.into()).unwrap();
+            good.insert((request.n, request.r));
+            kinds.extend(
+                kinds_of_sheet(&sheet)
+                    .into_iter()
+                    .map(|kind| (request.n, kind)),
+            );
+        }
+        if request.b.is_empty() {
+            empty.insert((request.n, request.r, answer.code));
+        }
+    }
+    assert_eq!(good, choices());
+    // one symbol has no bit before it
+    assert_eq!(kinds.len(), 2 + 7 * 5);
+    for n in 0..=7 {
+        assert!(empty.contains(&(n, 0, 0)) && empty.contains(&(n, 0, 14)));
+        for r in [6, 11].into_iter().filter(|&r| r <= 1 << n) {
+            assert!(empty.contains(&(n, r, 13)), "n {n}, r {r}");
+        }
+    }
+}
+
+/// Whether a word keeps every frozen rule, and whether its free bits keep the check.
+fn kept(sheet: &Sheet, r: usize, word: &[u8]) -> (bool, bool) {
+    let word: Vec<bool> = word.iter().map(|&symbol| symbol == 1).collect();
+    let u = transform(&word);
+    let rest = remainder(&checked_sequence(&free_bits(sheet, &u), r), r);
+    (keeps(sheet, 0, &u), !rest.contains(&true))
+}
+
+#[test]
+fn words_read_back_reach_what_they_must() {
+    let mut seen = BTreeSet::new();
+    let mut zero = BTreeSet::new();
+    for (request, answer, out) in answered(3) {
+        assert_eq!([answer.g, answer.m, answer.d], [0; 3]);
+        if answer.code > 2 {
+            continue;
+        }
+        let [n, r] = [request.n, request.r].map(usize::from);
+        let sheet = Sheet::read(n, &request.a, r).unwrap();
+        let kept = kept(&sheet, r, &request.b);
+        assert_eq!(answer.code == 0, kept == (true, true));
+        let written = if answer.code == 0 { sheet.k() - r } else { 0 };
+        assert!(out[..written].iter().all(|&bit| bit <= 1));
+        assert!(out[written..].iter().all(|&byte| byte == 165));
+        seen.insert((request.n, request.r, kept));
+        if request.b.iter().all(|&symbol| symbol == 0) {
+            zero.insert((request.n, answer.code));
+        }
+    }
+    for (n, r) in choices() {
+        for kept in [(true, true), (false, true), (true, false), (false, false)] {
+            let possible = r > 0 || kept.1;
+            assert_eq!(
+                seen.contains(&(n, r, kept)),
+                possible,
+                "n {n}, r {r}, {kept:?}"
+            );
+        }
+    }
+    assert_eq!(zero.len(), 16);
+}
+
+#[test]
+fn bench_rows_are_decoded() {
+    let mut check = vec![0; 160];
+    check[0] = 1;
+    let mut refused = check.clone();
+    refused[20] = 1;
+    let mut frozen = vec![0; 20];
+    frozen[..2].copy_from_slice(&[1, 1]);
+    let free = vec![0; 20];
+    let pair = vec![0; 40];
+    let e = sheet_e();
+    for (sheet, r, ceiling, word, expected) in [
+        (&e, 0, 63, "01111000", [0, 0, 0, 4, 0]),
+        (&e, 0, 63, "22221000", [0, 0, 1, 1, 0]),
+        (&e, 0, 63, "01112222", [0, 0, 1, 1, 0]),
+        (&e, 0, 63, "21111000", [0, 0, 0, 3, 0]),
+        (&e, 0, 63, "11111000", [2, 0, 0, 4, 0]),
+        (&e, 0, 63, "02200220", [1, 0, 1, 1, 1]),
+        (&e, 0, 63, "02211220", [1, 0, 1, 1, 1]),
+        (&e, 0, 63, "12200220", [2, 0, 1, 1, 0]),
+        (&e, 0, 63, "22222222", [1, 0, 4, 0, 4]),
+        (&e, 0, 3, "22222222", [18, 0, 4, 0, 0]),
+        (&e, 0, 4, "22222222", [1, 0, 4, 0, 4]),
+        (&free, 0, 63, "2", [1, 0, 1, 0, 1]),
+        (&frozen, 0, 63, "2", [0, 0, 0, 0, 0]),
+        (&frozen, 0, 63, "0", [2, 0, 0, 1, 0]),
+        (&pair, 0, 63, "22", [1, 0, 2, 0, 2]),
+        (&check, 6, 63, "22222222", [1, 0, 7, 6, 1]),
+        (&refused, 6, 63, "22222222", [13, 0, 0, 0, 0]),
+    ] {
+        let word = symbols(word);
+        let found = answered(2).iter().find(|(request, ..)| {
+            (&request.a, &request.b) == (sheet, &word)
+                && (request.r, request.ceiling) == (r, ceiling)
+        });
+        let (_, answer, _) = found.unwrap_or_else(|| panic!("no row {word:?}"));
+        assert_eq!(answer.numbers(), expected, "{word:?}");
+    }
+}
+
+#[test]
+fn verdicts_reach_what_they_must() {
+    let mut verdicts: BTreeMap<(u16, u16, u16), usize> = BTreeMap::new();
+    let mut kinds = BTreeSet::new();
+    let mut dimensions = BTreeSet::new();
+    let mut patterns: [BTreeSet<Vec<bool>>; 8] = Default::default();
+    let mut recovered = [0; 8];
+    let mut settled = 0;
+    for (request, answer, out) in answered(2) {
+        if answer.code > 2 {
+            continue;
+        }
+        let n = usize::from(request.n);
+        let sheet = Sheet::read(n, &request.a, request.r.into()).unwrap();
+        let lost: Vec<bool> = request.b.iter().map(|&symbol| symbol == 2).collect();
+        let losses = lost.iter().filter(|&&lost| lost).count();
+        let key = (request.n, request.r, answer.code);
+        *verdicts.entry(key).or_default() += 1;
+        kinds.extend(
+            kinds_of_sheet(&sheet)
+                .into_iter()
+                .map(|kind| (n, answer.code, kind)),
+        );
+        if answer.code < 2 {
+            dimensions.insert(answer.d);
+            let open = out[..1 << n].iter().filter(|&&symbol| symbol == 2).count();
+            recovered[n] += usize::from(answer.code == 0 && answer.g > 0);
+            settled += usize::from(answer.code == 1 && open < losses);
+            assert!(out[3 << n..].iter().all(|&byte| byte == 165));
+        }
+        patterns[n].insert(lost);
+    }
+    for (n, r) in choices() {
+        for code in 0..3 {
+            let count = verdicts.get(&(n, r, code)).copied().unwrap_or(0);
+            let least = if n == 0 { 2 } else { 20 };
+            assert!(count >= least, "n {n}, r {r}, code {code}: {count}");
+        }
+    }
+    // one symbol has no bit before it, and two codewords only if it is free
+    assert_eq!(kinds.len(), 5 + 7 * 3 * 5);
+    assert!((0..=20).all(|d| dimensions.contains(&d)), "{dimensions:?}");
+    assert!(dimensions.last() > Some(&50), "{dimensions:?}");
+    for (n, patterns) in patterns.iter().enumerate() {
+        assert!([true, false]
+            .map(|lost| vec![lost; 1 << n])
+            .iter()
+            .all(|all| patterns.contains(all)));
+        assert!(n > 3 || patterns.len() == 1 << (1 << n), "n {n}");
+        let least = [0, 5, 100][n.min(2)];
+        assert!(recovered[n] >= least, "n {n}: {recovered:?}");
+    }
+    assert!(settled > 300, "{settled}");
+}
+
+#[test]
+fn ceilings_reach_their_edges() {
+    let mut edges = BTreeSet::new();
+    let mut long = [0; 8];
+    let mut largest = BTreeSet::new();
+    for (request, answer, _) in answered(2) {
+        let n = usize::from(request.n);
+        match answer.code {
+            17 => {
+                edges.insert((n, 17, i32::from(request.ceiling)));
+            }
+            0..=2 | 18 => {
+                let off = i32::from(request.ceiling) - i32::from(answer.g);
+                edges.insert((n, if answer.code == 18 { 18 } else { 0 }, off));
+                largest.insert((request.ceiling, answer.g, answer.code == 18));
+                long[n] += 1;
+            }
+            _ => {}
+        }
+    }
+    for n in 0..=7 {
+        for edge in [(17, 64), (17, 65535), (18, -1), (0, 0), (0, 1)] {
+            assert!(edges.contains(&(n, edge.0, edge.1)), "n {n}, {edge:?}");
+        }
+    }
+    for (ceiling, g) in [
+        (0, 0),
+        (0, 1),
+        (62, 62),
+        (62, 63),
+        (63, 63),
+        (63, 64),
+        (63, 128),
+    ] {
+        assert!(
+            largest.contains(&(ceiling, g, g > ceiling)),
+            "{ceiling}, {g}"
+        );
+    }
+    assert!(long[6] >= 1_500 && long[7] >= 1_500, "{long:?}");
+}
+
+#[test]
+fn streams_reach_what_they_must() {
+    let mut codes = BTreeSet::new();
+    let mut records = BTreeSet::new();
+    let mut rests = BTreeSet::new();
+    let mut rooms = BTreeSet::new();
+    let mut lengths = BTreeSet::new();
+    let mut most = [0; 8];
+    for (request, answer, out) in answered(4) {
+        codes.insert(answer.code);
+        let n = (0..8).find(|n| request.a.len() == 20 << n);
+        let count = match n {
+            Some(n) if request.c.len() == 2 => request.b.len().div_ceil(1 << n),
+            _ => 1,
+        };
+        let room = request.o as isize - 392 * count as isize;
+        rooms.insert(room);
+        lengths.insert((n, request.c.len(), request.b.is_empty()));
+        assert_eq!(answer, &Answer::code(if room < 0 { 16 } else { 0 }));
+        let written = if room < 0 { 0 } else { 392 * count };
+        assert!(out[written..].iter().all(|&byte| byte == 165));
+        let written: Vec<&[u8]> = out[..written].chunks(392).collect();
+        records.extend(written.iter().map(|record| (n, record[0])));
+        if let Some(n) = n {
+            rests.insert((n, request.b.len() % (1 << n), room < 0));
+            let different: BTreeSet<&[u8]> = written.into_iter().collect();
+            most[n] = different.len().max(most[n]);
+        }
+    }
+    assert_eq!(codes, BTreeSet::from([0, 16]));
+    assert!([-1, 0, 1, 3].iter().all(|room| rooms.contains(room)));
+    assert!(records.contains(&(None, 11)));
+    for n in 0..8 {
+        for code in [0, 1, 2, 12, 13, 14, 15, 17, 18] {
+            // one symbol cannot be cut off
+            let possible = (n, code) != (0, 14);
+            assert_eq!(
+                records.contains(&(Some(n), code)),
+                possible,
+                "n {n}, {code}"
+            );
+        }
+        for choice in 0..=3 {
+            for empty in [false, true] {
+                assert!(
+                    lengths.contains(&(Some(n), choice, empty)),
+                    "n {n}, {choice}"
+                );
+            }
+        }
+        assert!(n > 4 || (0..1 << n).all(|rest| rests.contains(&(n, rest, false))));
+        assert!(most[n] >= if n == 0 { 3 } else { 6 }, "{most:?}");
+    }
+    for choice in [1, 2] {
+        assert!([true, false]
+            .iter()
+            .all(|&empty| lengths.contains(&(None, choice, empty))));
+    }
+    let example = symbols("011110002");
+    let rows = answered(4).iter().filter(|(request, ..)| {
+        (&request.a, &request.b) == (&sheet_e(), &example) && request.c == [0, 63]
+    });
+    assert_eq!(rows.map(|row| row.1.code).collect::<Vec<_>>(), [16, 0, 0]);
 }

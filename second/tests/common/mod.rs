@@ -1,4 +1,4 @@
-// What the tests share: sheet E, random words and sheets, and calls on a marked buffer.
+// What the tests share: sheet E, random sheets, and calls on a marked buffer.
 #![allow(dead_code)] // each test file uses a part of it
 
 use second::answer::Answer;
@@ -43,27 +43,6 @@ pub fn any_sheet(rng: &mut Rng, n: usize, r: usize) -> (Vec<u8>, Sheet) {
     let bytes = good(rng, 1 << n, k, style);
     let sheet = Sheet::read(n, &bytes, r).expect("a good sheet");
     (bytes, sheet)
-}
-
-pub fn bits(rng: &mut Rng, length: usize) -> Vec<u8> {
-    (0..length).map(|_| rng.below(2) as u8).collect()
-}
-
-/// The word with each symbol erased at a chance of `losses` in eight.
-pub fn damaged(rng: &mut Rng, word: &[u8], losses: usize) -> Vec<u8> {
-    word.iter()
-        .map(|&symbol| if rng.below(8) < losses { 2 } else { symbol })
-        .collect()
-}
-
-/// The codeword of a payload drawn at random.
-pub fn any_codeword(rng: &mut Rng, n: usize, bytes: &[u8], r: usize) -> Vec<u8> {
-    let sheet = Sheet::read(n, bytes, r).expect("a good sheet");
-    let payload = bits(rng, sheet.k() - r);
-    let mut word = vec![BEFORE; 1 << n];
-    let answer = calls::encode(n, bytes, r, &payload, &mut word);
-    assert_eq!(answer, Answer::code(0));
-    word
 }
 
 /// Decodes into a buffer five bytes longer than needed, and holds that these stay.

@@ -1,19 +1,12 @@
-// The requests that go into the vectors, list by list; each list has its own seed, so that a new
-// list changes no other. So far they reach op 0, check_sheet.
+// Op 0, check_sheet: every refusal and every rule of a record at every place.
+// Each list has its own seed, so that a new list changes no other.
 
+use super::parts::{any_sheet, any_style, spoil_somehow, CHECKS, WRONG_CHECKS};
 use crate::limits::{LARGEST_EXPONENT, MASK_BYTES, RECORD_BYTES};
-use crate::make::{bytes, faults_at, good, name, spoil, Fault, Style, STYLES};
+use crate::make::{bytes, faults_at, good, name, spoil, Fault, STYLES};
 use crate::protocol::Request;
 use crate::rng::Rng;
 use crate::sheet::Record;
-
-/// The check lengths of the scope.
-const CHECKS: [usize; 3] = [0, 6, 11];
-
-/// Some that are not, among them ones whose low byte is.
-const WRONG_CHECKS: [usize; 18] = [
-    1, 2, 3, 4, 5, 7, 8, 9, 10, 12, 13, 17, 255, 256, 262, 267, 1536, 65535,
-];
 
 /// Every request, in its order.
 pub fn all() -> Vec<Request> {
@@ -49,24 +42,6 @@ fn check_sheet(rng: &mut Rng, n: usize, sheet: Vec<u8>, r: usize) -> Request {
         },
         ..Request::default()
     }
-}
-
-fn any_style(rng: &mut Rng) -> Style {
-    STYLES[rng.below(STYLES.len())]
-}
-
-/// A good sheet of N = 2^n records with any K.
-fn any_sheet(rng: &mut Rng, n: usize) -> Vec<u8> {
-    let k = rng.within(0, 1 << n);
-    let style = any_style(rng);
-    good(rng, 1 << n, k, style)
-}
-
-/// Spoils record i by any fault it can have.
-fn spoil_somehow(rng: &mut Rng, sheet: &mut [u8], i: usize) {
-    let faults = faults_at(sheet.len() / RECORD_BYTES, i);
-    let fault = faults[rng.below(faults.len())];
-    spoil(rng, sheet, i, fault);
 }
 
 /// Sheets of every N, right, too short and too long.

@@ -1,0 +1,132 @@
+-- The verdict of a list of candidates that are the values of some rows at the solutions of some equations, read off the reduced rows.
+--     solutions, block      the solutions in order; the rows' values at one of them
+--     the-first, the-last   the first and the last candidate
+--     settled-at            whether all candidates agree at a place
+--     the-strips            all three strips
+--     verdict-rows          the verdict
+use mathlib.Core.Path.{_≡_, refl, sym, ap, ap₂, _∙_}
+use Prim.Native.Nat.{ℕ, zero, suc, _*_, _-_, _^_, _≤_, _<_}
+use native.Mathlib.Omega.{arith}
+use mathlib.Core.Bool.{Bool, true, false}
+use mathlib.Core.List.{List, [], _++_, map, List·Memᴰ, Memᴰ·map, Memᴰ·of-map}
+use lib.ListN.{length, getD, replicate, length-map, length-set, length-replicate}
+use lib.Dec.{eqb}
+use borrow.Author.Tests.{eq-eqb, ne-eqb}
+use Rattle.bits.specs.Vectors.{bit, pick, filter, allBits, Before}
+use Rattle.bits.specs.Rows.{Row}
+use Rattle.bits.proofs.Tests.{filter-mem, mem-filter, length-filter}
+use Rattle.bits.proofs.Rising.{all-bits, bits-length, rises-bits, rises-filter}
+use Rattle.gf2.specs.Rows.{at}
+use Rattle.gf2.specs.Solve.{lead, solve}
+use Rattle.gf2.specs.System.{Within, Hom, value, solves, consistent, completed, unit}
+use Rattle.gf2.proofs.Rows.{has-⊻}
+use Rattle.gf2.proofs.Passes.{solve-sized}
+use Rattle.gf2.proofs.Fill.{length-fill}
+use Rattle.gf2.proofs.Solutions.{after, rest, rest-within, completed-solves, first-solution, last-solution, solution-count, settled, rest-by-free, first-value, unsettled}
+use Rattle.meaning.specs.Strips.{settledAt, first, last, strips}
+use Rattle.meaning.specs.Answers.{verdict, writing}
+use Rattle.meaning.specs.declared.Answer.the-variants.{Unique, Ambiguous}
+use Rattle.verdict.specs.Reading.{constant, rowSettled, rowFirst, rowLast, rowStrips, rowVerdict}
+use Rattle.verdict.proofs.Listing.{first-of, last-of, common-same, common-other, map-at, tab-places, places, strips-are, verdict-none, verdict-is}
+
+module _ (c : ℕ) (e r : List Row) (g : ℕ) (hg : g ≤ 64 * c) (B : Within c g e) where
+  abbrev κ : Row → Bool
+  κ x = constant c x
+
+  hom : Hom κ
+  hom = has-⊻ (64 * c)
+
+  abbrev solutions : List (List Bool)
+  solutions = filter (solves κ e) (allBits g)
+
+  abbrev block : List Bool → List Bool
+  block t = map (value κ t) r
+
+  sized : length (rest c e r) ≡ length r
+  sized = solve-sized c e r .1
+
+  member : (t : List Bool) → List·Memᴰ t solutions → (length t ≡ g) × (solves κ e t ≡ true)
+  member t m = let (k, s) = filter-mem (solves κ e) (allBits g) m in (bits-length g t k, s)
+
+  size : length (map block solutions) ≡ pick (consistent c κ (after c e r)) (2 ^ (g - (solve c e r) .rank)) 0
+  size = length-map solutions block ∙ length-filter (solves κ e) (allBits g) ∙ solution-count c e r κ hom g hg B
+
+  module _ (ok : consistent c κ (after c e r) ≡ true) where
+    -- ---- the first and the last
+
+    -- any choice of the free unknowns gives one
+    full : (z : List Bool) → length z ≡ g → List·Memᴰ (completed c κ (after c e r) z) solutions
+    full z l = mem-filter (solves κ e) (all-bits g _ (length-fill c κ (after c e r) [] z ∙ l)) (completed-solves c e r κ hom g hg B ok z l)
+
+    abbrev lowest : List Bool
+    lowest = completed c κ (after c e r) (replicate g false)
+
+    abbrev highest : List Bool
+    highest = completed c κ (after c e r) (replicate g true)
+
+    the-first : first (map block solutions) ≡ map (rowFirst c) (rest c e r)
+    the-first =
+        first-of block solutions lowest (rises-filter Before (solves κ e) (allBits g) (rises-bits g)) (full (replicate g false) (length-replicate g false))
+        (λ y m. let (l, s) = member y m in first-solution c e r κ hom g hg B y l s)
+        ∙ places [] (value κ lowest) (rowFirst c) r (rest c e r) sized (λ j l. ap bit (first-value c e r κ hom g hg B ok j l))
+
+    the-last : last (map block solutions) ≡ map (rowLast c g) (rest c e r)
+    the-last =
+        last-of block solutions highest (rises-filter Before (solves κ e) (allBits g) (rises-bits g)) (full (replicate g true) (length-replicate g true))
+        (λ y m. let (l, s) = member y m in last-solution c e r κ hom g hg B y l s)
+        ∙ places [] (value κ highest) (rowLast c g) r (rest c e r) sized
+        (λ j l. ap bit (rest-by-free c e r κ hom g hg B ok (replicate g true) (length-replicate g true) j l))
+
+    -- ---- whether all agree
+
+    module _ (C : Within c g r) where
+      settled-at : (j : ℕ) → j < length r → settledAt (map block solutions) j ≡ rowSettled c (at (rest c e r) j)
+      settled-at j h = go (lead c (at (rest c e r) j)) refl
+        where
+          x : Row
+          x = at (rest c e r) j
+
+          read : (t : List Bool) → getD (block t) j false ≡ value κ t (at r j)
+          read t = map-at [] (value κ t) r j false h
+
+          low : List·Memᴰ (block lowest) (map block solutions)
+          low = Memᴰ·map block (full (replicate g false) (length-replicate g false))
+
+          go : (n : ℕ) → lead c x ≡ n → settledAt (map block solutions) j ≡ rowSettled c x
+          go zero q =
+              common-same (λ (y : List Bool). getD y j false) (map block solutions) (κ x) (block lowest) low
+              (λ y m.
+              let (t, k, f) = Memᴰ·of-map block solutions m in
+              let (l, s) = member t k in
+              ap (λ (u : List Bool). getD u j false) (sym f) ∙ read t ∙ settled c e r κ hom g hg B t l s j h q)
+              ∙ sym (rw (eq-eqb (lead c x) 0 q) refl)
+          go (suc b) q =
+              let p : b < g = rw q at (rest-within c e r g B C j h) in
+              let (a, z) = unsettled c e r κ hom g hg B ok j b h q p in
+              common-other (λ (y : List Bool). getD y j false) (map block solutions) (κ x) (block lowest) (block (completed c κ (after c e r) (unit g b)))
+              low (Memᴰ·map block (full (unit g b) (length-set (replicate g false) b true ∙ length-replicate g false))) (read lowest ∙ a) (read _ ∙ z)
+              ∙ sym (rw (ne-eqb (lead c x) 0 (λ (w : lead c x ≡ 0). omega arith)) refl)
+
+      the-strips : (n : ℕ) → length r ≡ 2 ^ n → strips n (map block solutions) ≡ rowStrips c g (rest c e r)
+      unfolding rowStrips
+      the-strips n l =
+          strips-are n (map block solutions)
+          ∙ ap₂ (λ (a b : List ℕ). a ++ b)
+          (ap₂ (λ (a b : List ℕ). a ++ b) (tab-places [] (2 ^ n) (settledAt (map block solutions)) (rowSettled c) (rest c e r) (sized ∙ l) (λ j h. settled-at j (omega arith))) the-first)
+          the-last
+
+  -- ---- the verdict
+
+  pub verdict-rows : Within c g r → (n : ℕ) → length r ≡ 2 ^ n → (m : ℕ) (out : List ℕ) → verdict n g m (map block solutions) out ≡ rowVerdict c g m (solve c e r) out
+  unfolding rowVerdict verdict
+  verdict-rows C n l m out = go (consistent c κ (after c e r)) refl
+    where
+      d : ℕ
+      d = g - (solve c e r) .rank
+
+      go : (b : Bool) → consistent c κ (after c e r) ≡ b → verdict n g m (map block solutions) out ≡ rowVerdict c g m (solve c e r) out
+      go true q =
+          rw q
+          (verdict-is n g m (map block solutions) out d (rw q at size)
+          ∙ ap (λ (s : List ℕ). pick (eqb d 0) (writing s out (Unique g m)) (writing s out (Ambiguous g m d))) (the-strips q C n l))
+      go false q = rw q (verdict-none n g m (map block solutions) out (rw q at size))

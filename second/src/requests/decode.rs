@@ -1,0 +1,345 @@
+// Op 2, decode: the refusals with the ceiling at its edges, and words on and off the code with
+// losses from none to all. Ceilings are placed by the count g of the open free positions.
+
+use super::faults;
+use super::parts::{choices, first_middle_last, room, suited, symbols, Code, CHECKS};
+use crate::code::ERASED;
+use crate::limits::{LARGEST_CEILING, LARGEST_EXPONENT};
+use crate::make::{bits, bytes, damaged, every_word, STYLES};
+use crate::open;
+use crate::protocol::Request;
+use crate::rng::Rng;
+use crate::sheet::Record;
+
+pub fn all() -> Vec<Request> {
+    [
+        bench(),
+        faults::all(200, 2, good),
+        ceiling_sets(),
+        ceilings(),
+        largest_ceilings(),
+        full_codes(),
+        small_codes(),
+        every_loss(),
+        every_burst(),
+        any_words(),
+    ]
+    .concat()
+}
+
+fn decode(code: &Code, word: Vec<u8>, ceiling: usize, o: usize) -> Request {
+    code.request(2, ceiling, word, o)
+}
+
+/// A codeword with a few losses under the largest ceiling, its room exact.
+fn good(rng: &mut Rng, code: &Code) -> Request {
+    let word = code.codeword(rng);
+    let word = damaged(rng, &word, 2);
+    decode(code, word, LARGEST_CEILING, 3 * code.length())
+}
+
+/// Decodes a word with any room that is enough.
+fn decode_in_room(rng: &mut Rng, code: &Code, word: Vec<u8>, ceiling: usize) -> Request {
+    let o = room(rng, 3 * code.length());
+    decode(code, word, ceiling, o)
+}
+
+/// g of a word.
+fn unknowns(code: &Code, word: &[u8]) -> usize {
+    open::counts(&code.read(), code.r, &open::open_positions(word)).0
+}
+
+/// The sheet that freezes these positions to these constants.
+fn plain(n: usize, r: usize, frozen: &[(usize, bool)]) -> Code {
+    let mut records = vec![Record::default(); 1 << n];
+    for &(i, constant) in frozen {
+        records[i].frozen = true;
+        records[i].constant = constant;
+    }
+    let sheet = bytes(&records);
+    Code { n, r, sheet }
+}
+
+/// The bench rows: E4 to E13, one and two symbols, and the check of length 6 with its refusal.
+fn bench() -> Vec<Request> {
+    let mut rows: Vec<(Code, &str, usize)> = [
+        "01111000", "22221000", "01112222", "21111000", "11111000", "02200220", "02211220",
+        "12200220", "22222222",
+    ]
+    .map(|word| (Code::bench(), word, 63))
+    .to_vec();
+    for ceiling in [3, 4] {
+        rows.push((Code::bench(), "22222222", ceiling));
+    }
+    rows.push((plain(0, 0, &[]), "2", 63));
+    for word in ["2", "0", "1"] {
+        rows.push((plain(0, 0, &[(0, true)]), word, 63));
+    }
+    rows.push((plain(1, 0, &[]), "22", 63));
+    rows.push((plain(3, 6, &[(0, false)]), "22222222", 63));
+    rows.push((plain(3, 6, &[(0, false), (1, false)]), "22222222", 63));
+    rows.into_iter()
+        .map(|(code, word, ceiling)| decode(&code, symbols(word), ceiling, 3 * code.length()))
+        .collect()
+}
+
+/// Every set of the faults 11 to 16 together with a ceiling below g (18), above the largest (17)
+/// or, where N allows it, both.
+fn ceiling_sets() -> Vec<Request> {
+    let mut rng = Rng::new(210);
+    let mut list = Vec::new();
+    for n in 0..=LARGEST_EXPONENT {
+        let rounds = if n < 3 { 3 } else { 1 };
+        for set in (0..1 << 6).cycle().take(rounds << 6) {
+            let r = rng.pick(&CHECKS);
+            let code = Code::any(&mut rng, n, suited(n, r));
+            let lost = vec![ERASED; 1 << n];
+            let g = unknowns(&code, &lost);
+            let mut low = decode(&code, lost, rng.below(g.min(LARGEST_CEILING + 1)), 3 << n);
+            list.push(faults::put(&mut rng, low.clone(), set, 2));
+            let above = LARGEST_CEILING as u16 + 1;
+            low.ceiling = rng.pick(&[above, above, above + 1, 255, 256, 65535]);
+            list.push(faults::put(&mut rng, low, set, 2));
+        }
+    }
+    list
+}
+
+/// The word with the losses of the first so many places of an order.
+fn lost_at(word: &[u8], order: &[usize]) -> Vec<u8> {
+    let mut word = word.to_vec();
+    for &place in order {
+        word[place] = ERASED;
+    }
+    word
+}
+
+/// The word with just as many losses, in any order, as give this g; all if none does.
+/// One loss more never takes from g.
+fn lost_to(rng: &mut Rng, code: &Code, word: &[u8], g: usize) -> Vec<u8> {
+    let order = rng.order(word.len());
+    let [mut low, mut high] = [0, word.len()];
+    while low < high {
+        let middle = (low + high) / 2;
+        if unknowns(code, &lost_at(word, &order[..middle])) < g {
+            low = middle + 1;
+        } else {
+            high = middle;
+        }
+    }
+    lost_at(word, &order[..low])
+}
+
+/// A word under the ceilings g - 1, g, g + 1, 0, the largest, one above it and 65535, each once.
+fn at_its_ceilings(rng: &mut Rng, code: &Code, word: &[u8]) -> Vec<Request> {
+    let g = unknowns(code, word);
+    let most = LARGEST_CEILING;
+    let mut ceilings = vec![g.max(1) - 1, g, g + 1, 0, most, most + 1, 65535];
+    ceilings.sort();
+    ceilings.dedup();
+    (ceilings.into_iter())
+        .map(|ceiling| decode_in_room(rng, code, word.to_vec(), ceiling))
+        .collect()
+}
+
+/// Codewords, and every third time words off the code, under ceilings about their g.
+fn ceilings() -> Vec<Request> {
+    let mut rng = Rng::new(211);
+    let mut list = Vec::new();
+    for (n, r) in choices() {
+        for round in 0..6 {
+            let code = Code::any(&mut rng, n, r);
+            let mut word = code.codeword(&mut rng);
+            if round % 3 == 2 {
+                word[rng.below(1 << n)] ^= 1;
+            }
+            let word = damaged(&mut rng, &word, round + 1);
+            list.extend(at_its_ceilings(&mut rng, &code, &word));
+        }
+    }
+    list
+}
+
+/// g about the largest ceiling, in the two largest N.
+fn largest_ceilings() -> Vec<Request> {
+    let mut rng = Rng::new(212);
+    let mut list = Vec::new();
+    for n in [LARGEST_EXPONENT - 1, LARGEST_EXPONENT] {
+        for g in LARGEST_CEILING - 1..=(LARGEST_CEILING + 3).min(1 << n) {
+            let k = rng.within(g, 1 << n);
+            let style = rng.pick(&STYLES);
+            let r = rng.pick(&CHECKS);
+            let code = Code::new(&mut rng, n, r, k, style);
+            let word = code.codeword(&mut rng);
+            let word = lost_to(&mut rng, &code, &word, g);
+            list.extend(at_its_ceilings(&mut rng, &code, &word));
+        }
+    }
+    list
+}
+
+/// All positions free, and all frozen; all symbols lost, none, the left and the right half.
+fn full_codes() -> Vec<Request> {
+    let mut rng = Rng::new(217);
+    let mut list = Vec::new();
+    for (n, r) in choices() {
+        let length = 1 << n;
+        for k in if r == 0 {
+            vec![length, 0]
+        } else {
+            vec![length]
+        } {
+            let code = Code::new(&mut rng, n, r, k, STYLES[3]);
+            for lost in [0..length, 0..0, 0..length / 2, length / 2..length] {
+                let word = code.codeword(&mut rng);
+                let word = lost_at(&word, &lost.collect::<Vec<_>>());
+                list.push(decode_in_room(&mut rng, &code, word, LARGEST_CEILING));
+            }
+        }
+    }
+    list
+}
+
+/// Every word of the small codes.
+fn small_codes() -> Vec<Request> {
+    let mut rng = Rng::new(213);
+    let mut list = Vec::new();
+    for code in Code::small() {
+        for word in every_word(code.length(), 3) {
+            list.push(decode_in_room(&mut rng, &code, word, LARGEST_CEILING));
+        }
+    }
+    list
+}
+
+/// Every pattern of losses of eight symbols, on a codeword and on a word that may be none.
+fn every_loss() -> Vec<Request> {
+    let mut rng = Rng::new(214);
+    let mut list = Vec::new();
+    for r in [0, 6] {
+        for lost in every_word(8, 2) {
+            let code = Code::any(&mut rng, 3, r);
+            let places: Vec<usize> = (0..8).filter(|&j| lost[j] == 1).collect();
+            for word in [code.codeword(&mut rng), bits(&mut rng, 8)] {
+                let word = lost_at(&word, &places);
+                list.push(decode_in_room(&mut rng, &code, word, LARGEST_CEILING));
+            }
+        }
+    }
+    list
+}
+
+/// Codewords that lost a run of symbols: every run of eight and of sixteen symbols, and runs
+/// from the first, the middle and the last place on of the others.
+fn every_burst() -> Vec<Request> {
+    let mut rng = Rng::new(215);
+    let mut list = Vec::new();
+    for (n, r) in choices().into_iter().filter(|&(n, _)| n > 2) {
+        let starts = if n < 5 {
+            (0..1 << n).collect()
+        } else {
+            first_middle_last(1 << n)
+        };
+        for start in starts {
+            let longest = (1 << n) - start;
+            let lengths = if n < 5 {
+                (1..=longest).collect()
+            } else {
+                first_middle_last(longest)
+            };
+            for length in lengths {
+                let code = Code::any(&mut rng, n, r);
+                let word = code.codeword(&mut rng);
+                let run: Vec<usize> = (start..start + length).collect();
+                let word = lost_at(&word, &run);
+                list.push(decode_in_room(&mut rng, &code, word, LARGEST_CEILING));
+            }
+        }
+    }
+    list
+}
+
+/// A code at random, or one with the free positions of the most ones, or one of dense masks.
+fn any_code(rng: &mut Rng, n: usize, r: usize) -> Code {
+    match rng.below(8) {
+        0..=1 => {
+            let k = rng.within(r + 1, 1 << n);
+            Code::weighted(rng, n, r, k)
+        }
+        2 => Code::dense(rng, n, r),
+        3 if r == 0 => Code::new(rng, n, 0, 0, STYLES[3]),
+        _ => Code::any(rng, n, r),
+    }
+}
+
+/// A codeword, one with one or a few symbols flipped, one of the code without its check, or a
+/// word at random.
+fn any_word(rng: &mut Rng, code: &Code) -> Vec<u8> {
+    let flips = match rng.below(9) {
+        0..=4 => 0,
+        5 => 1,
+        6 => rng.within(2, 4),
+        7 => return code.without_check().codeword(rng),
+        _ => return bits(rng, code.length()),
+    };
+    let mut word = code.codeword(rng);
+    for _ in 0..flips {
+        let place = rng.below(code.length());
+        word[place] ^= 1;
+    }
+    word
+}
+
+/// The word with no loss, one, a run, any number by chance, as many as give a small g, or all.
+fn any_losses(rng: &mut Rng, code: &Code, word: &[u8]) -> Vec<u8> {
+    let length = word.len();
+    let order = rng.order(length);
+    match rng.below(16) {
+        0 => word.to_vec(),
+        1 => lost_at(word, &order[..1]),
+        2..=3 => {
+            let start = rng.below(length);
+            let end = rng.within(start, length);
+            lost_at(word, &(start..end).collect::<Vec<_>>())
+        }
+        4..=9 => {
+            let losses = rng.within(1, 7);
+            damaged(rng, word, losses)
+        }
+        10..=14 => {
+            let g = rng.within(1, 12);
+            lost_to(rng, code, word, g)
+        }
+        _ => vec![ERASED; length],
+    }
+}
+
+/// Mostly the largest ceiling, else one about g or any.
+fn any_ceiling(rng: &mut Rng, code: &Code, word: &[u8]) -> usize {
+    let g = unknowns(code, word);
+    match rng.below(10) {
+        0 => g.max(1) - 1,
+        1 => g,
+        2 => g + 1,
+        3 => rng.within(0, LARGEST_CEILING),
+        _ => LARGEST_CEILING,
+    }
+    .min(LARGEST_CEILING)
+}
+
+/// Words of every kind with losses of every kind.
+fn any_words() -> Vec<Request> {
+    let mut rng = Rng::new(216);
+    let mut list = Vec::new();
+    let counts = [50, 200, 900, 2700, 3700, 2200, 1500, 1500];
+    for (n, count) in counts.into_iter().enumerate() {
+        for round in 0..count {
+            let code = any_code(&mut rng, n, suited(n, CHECKS[round % 3]));
+            let word = any_word(&mut rng, &code);
+            let word = any_losses(&mut rng, &code, &word);
+            let ceiling = any_ceiling(&mut rng, &code, &word);
+            list.push(decode_in_room(&mut rng, &code, word, ceiling));
+        }
+    }
+    list
+}

@@ -1,0 +1,139 @@
+// Op 1, encode: the refusals, and payloads for every N, check length and kind of sheet; the empty
+// payload where no position is free.
+
+use super::faults;
+use super::parts::{choices, first_middle_last, room, symbols, Code};
+use crate::limits::LARGEST_EXPONENT;
+use crate::make::{bits, every_word, STYLES};
+use crate::protocol::Request;
+use crate::rng::Rng;
+
+pub fn all() -> Vec<Request> {
+    [
+        bench(),
+        faults::all(100, 1, good),
+        every_style(),
+        dense_masks(),
+        single_bits(),
+        small_codes(),
+        no_payload(),
+    ]
+    .concat()
+}
+
+/// A request of op 1; the ceiling is not looked at.
+fn encode(rng: &mut Rng, code: &Code, payload: Vec<u8>, o: usize) -> Request {
+    let ceiling = rng.pick(&[0, 0, 0, 63, 64, 65535]);
+    code.request(1, ceiling, payload, o)
+}
+
+fn good(rng: &mut Rng, code: &Code) -> Request {
+    let payload = bits(rng, code.payload());
+    encode(rng, code, payload, code.length())
+}
+
+/// Encodes a payload with any room that is enough.
+fn encode_in_room(rng: &mut Rng, code: &Code, payload: Vec<u8>) -> Request {
+    let o = room(rng, code.length());
+    encode(rng, code, payload, o)
+}
+
+/// The bench rows E1, E2 and E3.
+fn bench() -> Vec<Request> {
+    let mut rng = Rng::new(110);
+    ["1000", "0110", "1011"]
+        .map(|payload| encode(&mut rng, &Code::bench(), symbols(payload), 8))
+        .to_vec()
+}
+
+/// Every style with the smallest, the largest and any K.
+fn every_style() -> Vec<Request> {
+    let mut rng = Rng::new(111);
+    let mut list = Vec::new();
+    for (n, r) in choices() {
+        for style in STYLES {
+            for round in 0..10 {
+                let k = match round {
+                    0 => r + 1,
+                    1 => 1 << n,
+                    _ => rng.within(r + 1, 1 << n),
+                };
+                let code = Code::new(&mut rng, n, r, k, style);
+                let payload = bits(&mut rng, k - r);
+                list.push(encode_in_room(&mut rng, &code, payload));
+            }
+        }
+    }
+    list
+}
+
+/// Every frozen bit names all bits before it; any payload, all 0 and all 1.
+fn dense_masks() -> Vec<Request> {
+    let mut rng = Rng::new(112);
+    let mut list = Vec::new();
+    for (n, r) in choices() {
+        for round in 0..6 {
+            let code = Code::dense(&mut rng, n, r);
+            let payload = match round {
+                0 => vec![0; code.payload()],
+                1 => vec![1; code.payload()],
+                _ => bits(&mut rng, code.payload()),
+            };
+            list.push(encode_in_room(&mut rng, &code, payload));
+        }
+    }
+    list
+}
+
+/// Payloads with a single 1, at every place of a short one and at a few of a long one.
+fn single_bits() -> Vec<Request> {
+    let mut rng = Rng::new(113);
+    let mut list = Vec::new();
+    for (n, r) in choices() {
+        let code = Code::any(&mut rng, n, r);
+        let length = code.payload();
+        let places = if n < 6 {
+            (0..length).collect()
+        } else {
+            first_middle_last(length)
+        };
+        for place in places {
+            let mut payload = vec![0; length];
+            payload[place] = 1;
+            list.push(encode_in_room(&mut rng, &code, payload));
+        }
+    }
+    list
+}
+
+/// Every payload of the small codes.
+fn small_codes() -> Vec<Request> {
+    let mut rng = Rng::new(114);
+    let mut list = Vec::new();
+    for code in Code::small() {
+        for payload in every_word(code.payload(), 2) {
+            list.push(encode_in_room(&mut rng, &code, payload));
+        }
+    }
+    list
+}
+
+/// No free position: the empty payload alone is right, without a check; under a check K = r is
+/// refused whatever comes.
+fn no_payload() -> Vec<Request> {
+    let mut rng = Rng::new(115);
+    let mut list = Vec::new();
+    for n in 0..=LARGEST_EXPONENT {
+        for style in STYLES {
+            let code = Code::new(&mut rng, n, 0, 0, style);
+            list.push(encode_in_room(&mut rng, &code, Vec::new()));
+            list.push(encode_in_room(&mut rng, &code, vec![0]));
+        }
+        for r in [6, 11].into_iter().filter(|&r| r <= 1 << n) {
+            let mut code = Code::new(&mut rng, n, 0, r, STYLES[3]);
+            code.r = r;
+            list.push(encode_in_room(&mut rng, &code, Vec::new()));
+        }
+    }
+    list
+}

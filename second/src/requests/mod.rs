@@ -1,0 +1,32 @@
+// The requests that go into the vectors: one module for each op, and what their lists share.
+// Every list starts from a seed of its own, so that a new one changes no other.
+
+mod decode;
+mod encode;
+mod faults;
+mod parts;
+mod read_back;
+mod sheets;
+mod stream;
+
+use crate::protocol::Request;
+
+/// The ops that go into the vectors, in their order.
+pub const OPS: [u16; 3] = [0, 1, 3];
+
+/// Every request of the vectors, in its order.
+pub fn all() -> Vec<Request> {
+    OPS.into_iter().flat_map(of).collect()
+}
+
+/// Every request of one op, in its order.
+pub fn of(op: u16) -> Vec<Request> {
+    match op {
+        0 => sheets::all(),
+        1 => encode::all(),
+        2 => decode::all(),
+        3 => read_back::all(),
+        4 => stream::all(),
+        op => panic!("no op {op}"),
+    }
+}

@@ -1,0 +1,185 @@
+// What the lists of requests share: check lengths, sheets drawn at random, and good codes with
+// their words.
+
+use crate::limits::{LARGEST_EXPONENT, RECORD_BYTES};
+use crate::make::{
+    any_codeword, bytes, every_sheet, faults_at, frozen_at, good, spoil, Style, STYLES,
+};
+use crate::protocol::Request;
+use crate::rng::Rng;
+use crate::sheet::{Record, Sheet};
+
+/// The check lengths of the scope.
+pub const CHECKS: [usize; 3] = [0, 6, 11];
+
+/// Some that are not, among them ones whose low byte is.
+pub const WRONG_CHECKS: [usize; 18] = [
+    1, 2, 3, 4, 5, 7, 8, 9, 10, 12, 13, 17, 255, 256, 262, 267, 1536, 65535,
+];
+
+pub fn any_style(rng: &mut Rng) -> Style {
+    rng.pick(&STYLES)
+}
+
+/// A good sheet of N = 2^n records with any K.
+pub fn any_sheet(rng: &mut Rng, n: usize) -> Vec<u8> {
+    let k = rng.within(0, 1 << n);
+    let style = any_style(rng);
+    good(rng, 1 << n, k, style)
+}
+
+/// Spoils record i by any fault it can have.
+pub fn spoil_somehow(rng: &mut Rng, sheet: &mut [u8], i: usize) {
+    let faults = faults_at(sheet.len() / RECORD_BYTES, i);
+    let fault = rng.pick(&faults);
+    spoil(rng, sheet, i, fault);
+}
+
+/// Every n with every check length that a good sheet of N = 2^n can have.
+pub fn choices() -> Vec<(usize, usize)> {
+    (0..=LARGEST_EXPONENT)
+        .flat_map(|n| CHECKS.map(|r| (n, r)))
+        .filter(|&(n, r)| suited(n, r) == r)
+        .collect()
+}
+
+/// The check length where a good sheet of N = 2^n can have it, else 0.
+pub fn suited(n: usize, r: usize) -> usize {
+    if r < 1 << n {
+        r
+    } else {
+        0
+    }
+}
+
+/// The first, the middle and the last place, each once.
+pub fn first_middle_last(length: usize) -> Vec<usize> {
+    let mut places = vec![0, length / 2, length - 1];
+    places.dedup();
+    places
+}
+
+/// The room a call needs, mostly exact, else longer.
+pub fn room(rng: &mut Rng, needed: usize) -> usize {
+    needed + rng.pick(&[0, 0, 0, 0, 1, 2, 5, 16])
+}
+
+/// A good sheet with a check length that suits it.
+#[derive(Clone)]
+pub struct Code {
+    pub n: usize,
+    pub r: usize,
+    pub sheet: Vec<u8>,
+}
+
+impl Code {
+    /// K free positions at random.
+    pub fn new(rng: &mut Rng, n: usize, r: usize, k: usize, style: Style) -> Code {
+        let sheet = good(rng, 1 << n, k, style);
+        Code { n, r, sheet }
+    }
+
+    /// Any style and any K with at least one bit of payload.
+    pub fn any(rng: &mut Rng, n: usize, r: usize) -> Code {
+        let k = rng.within(r + 1, 1 << n);
+        let style = any_style(rng);
+        Code::new(rng, n, r, k, style)
+    }
+
+    /// The K free positions are those with the most ones in their number.
+    pub fn weighted(rng: &mut Rng, n: usize, r: usize, k: usize) -> Code {
+        let mut order: Vec<usize> = (0..1 << n).collect();
+        order.sort_by_key(|i| i.count_ones());
+        let style = any_style(rng);
+        let sheet = frozen_at(rng, 1 << n, &order[..(1 << n) - k], style);
+        Code { n, r, sheet }
+    }
+
+    /// Any K with at least one bit of payload; every frozen bit names all bits before it.
+    pub fn dense(rng: &mut Rng, n: usize, r: usize) -> Code {
+        let k = rng.within(r + 1, 1 << n);
+        let mut records = vec![Record::default(); 1 << n];
+        for &i in &rng.order(1 << n)[k..] {
+            records[i] = Record {
+                frozen: true,
+                constant: rng.bit(),
+                named: (0..i).collect(),
+            };
+        }
+        let sheet = bytes(&records);
+        Code { n, r, sheet }
+    }
+
+    /// Every code of one and of two symbols, and some of four, without a check.
+    pub fn small() -> Vec<Code> {
+        [(0, 1), (1, 1), (2, 75)]
+            .into_iter()
+            .flat_map(|(n, step)| {
+                let sheets = every_sheet(1 << n).into_iter().step_by(step);
+                sheets.map(move |records| Code {
+                    n,
+                    r: 0,
+                    sheet: bytes(&records),
+                })
+            })
+            .collect()
+    }
+
+    /// The bench code of eight symbols: u_0 = u_1 = u_2 = 0 and u_4 = u_3.
+    pub fn bench() -> Code {
+        let mut records = vec![Record::default(); 8];
+        for i in [0, 1, 2, 4] {
+            records[i].frozen = true;
+        }
+        records[4].named.push(3);
+        Code {
+            n: 3,
+            r: 0,
+            sheet: bytes(&records),
+        }
+    }
+
+    /// The same sheet with a check length of 0.
+    pub fn without_check(&self) -> Code {
+        Code {
+            r: 0,
+            ..self.clone()
+        }
+    }
+
+    pub fn read(&self) -> Sheet {
+        Sheet::read(self.n, &self.sheet, self.r).expect("a good code")
+    }
+
+    /// N.
+    pub fn length(&self) -> usize {
+        1 << self.n
+    }
+
+    /// The length of a payload, K - r.
+    pub fn payload(&self) -> usize {
+        self.read().k() - self.r
+    }
+
+    pub fn codeword(&self, rng: &mut Rng) -> Vec<u8> {
+        any_codeword(rng, self.n, &self.sheet, self.r)
+    }
+
+    pub fn request(&self, op: u16, ceiling: usize, b: Vec<u8>, o: usize) -> Request {
+        Request {
+            op,
+            n: self.n as u16,
+            r: self.r as u16,
+            ceiling: ceiling as u16,
+            a: self.sheet.clone(),
+            b,
+            c: Vec::new(),
+            o,
+        }
+    }
+}
+
+/// The symbols of a text such as 02200220.
+pub fn symbols(text: &str) -> Vec<u8> {
+    text.bytes().map(|digit| digit - b'0').collect()
+}

@@ -1,0 +1,200 @@
+// Op 3, read_back: the refusals, whole codewords, and words that break a frozen rule, the check
+// or both.
+
+use super::faults;
+use super::parts::{choices, first_middle_last, room, Code};
+use crate::code::transform;
+use crate::limits::LARGEST_EXPONENT;
+use crate::make::{bits, every_word, STYLES};
+use crate::protocol::Request;
+use crate::rng::Rng;
+
+pub fn all() -> Vec<Request> {
+    [
+        faults::all(300, 1, good),
+        whole(),
+        flipped(),
+        two_flipped(),
+        rule_broken(),
+        check_broken(),
+        any_words(),
+        plain_words(),
+        small_codes(),
+        no_payload(),
+    ]
+    .concat()
+}
+
+/// A request of op 3; the ceiling is not looked at.
+fn read_back(rng: &mut Rng, code: &Code, word: Vec<u8>, o: usize) -> Request {
+    let ceiling = rng.pick(&[0, 0, 0, 63, 64, 65535]);
+    code.request(3, ceiling, word, o)
+}
+
+fn good(rng: &mut Rng, code: &Code) -> Request {
+    let word = code.codeword(rng);
+    read_back(rng, code, word, code.payload())
+}
+
+/// Reads a word back with any room that is enough.
+fn read_in_room(rng: &mut Rng, code: &Code, word: Vec<u8>) -> Request {
+    let o = room(rng, code.payload());
+    read_back(rng, code, word, o)
+}
+
+/// Codewords of every style, and of sheets with dense masks.
+fn whole() -> Vec<Request> {
+    let mut rng = Rng::new(310);
+    let mut list = Vec::new();
+    for (n, r) in choices() {
+        for round in 0..28 {
+            let k = rng.within(r + 1, 1 << n);
+            let code = match STYLES.get(round % 7) {
+                Some(&style) => Code::new(&mut rng, n, r, k, style),
+                None => Code::dense(&mut rng, n, r),
+            };
+            let word = code.codeword(&mut rng);
+            list.push(read_in_room(&mut rng, &code, word));
+        }
+    }
+    list
+}
+
+/// One symbol flipped: at every place of a short word, at any place of a long one.
+fn flipped() -> Vec<Request> {
+    let mut rng = Rng::new(311);
+    let mut list = Vec::new();
+    for (n, r) in choices() {
+        for count in 0..(2usize << n).min(32) {
+            let code = Code::any(&mut rng, n, r);
+            let mut word = code.codeword(&mut rng);
+            let place = if n > 4 {
+                rng.below(1 << n)
+            } else {
+                count % (1 << n)
+            };
+            word[place] ^= 1;
+            list.push(read_in_room(&mut rng, &code, word));
+        }
+    }
+    list
+}
+
+/// Two symbols flipped.
+fn two_flipped() -> Vec<Request> {
+    let mut rng = Rng::new(312);
+    let mut list = Vec::new();
+    for (n, r) in choices().into_iter().filter(|&(n, _)| n > 0) {
+        for _ in 0..10 {
+            let code = Code::any(&mut rng, n, r);
+            let mut word = code.codeword(&mut rng);
+            for &place in &rng.order(1 << n)[..2] {
+                word[place] ^= 1;
+            }
+            list.push(read_in_room(&mut rng, &code, word));
+        }
+    }
+    list
+}
+
+/// The word whose u differs from that of this word at one position alone.
+fn with_other_bit(word: &[u8], position: usize) -> Vec<u8> {
+    let symbols: Vec<bool> = word.iter().map(|&symbol| symbol == 1).collect();
+    let mut u = transform(&symbols);
+    u[position] ^= true;
+    transform(&u).into_iter().map(u8::from).collect()
+}
+
+/// One frozen bit other than its rule, the free bits kept: the first, a middle and the last.
+fn rule_broken() -> Vec<Request> {
+    let mut rng = Rng::new(313);
+    let mut list = Vec::new();
+    for (n, r) in choices() {
+        for _ in 0..4 {
+            let code = Code::any(&mut rng, n, r);
+            let free = code.read().free();
+            let frozen: Vec<usize> = (0..1 << n).filter(|i| !free.contains(i)).collect();
+            for at in first_middle_last(frozen.len().max(1)) {
+                if let Some(&position) = frozen.get(at) {
+                    let word = with_other_bit(&code.codeword(&mut rng), position);
+                    list.push(read_in_room(&mut rng, &code, word));
+                }
+            }
+        }
+    }
+    list
+}
+
+/// Every rule kept and the check broken: the code without its check gives the words.
+fn check_broken() -> Vec<Request> {
+    let mut rng = Rng::new(314);
+    let mut list = Vec::new();
+    for (n, r) in choices().into_iter().filter(|&(_, r)| r > 0) {
+        for _ in 0..16 {
+            let code = Code::any(&mut rng, n, r);
+            let word = code.without_check().codeword(&mut rng);
+            list.push(read_in_room(&mut rng, &code, word));
+        }
+    }
+    list
+}
+
+/// Words drawn without the code.
+fn any_words() -> Vec<Request> {
+    let mut rng = Rng::new(315);
+    let mut list = Vec::new();
+    for (n, r) in choices() {
+        for _ in 0..8 {
+            let code = Code::any(&mut rng, n, r);
+            let word = bits(&mut rng, 1 << n);
+            list.push(read_in_room(&mut rng, &code, word));
+        }
+    }
+    list
+}
+
+/// All 0 and all 1.
+fn plain_words() -> Vec<Request> {
+    let mut rng = Rng::new(316);
+    let mut list = Vec::new();
+    for (n, r) in choices() {
+        for style in STYLES {
+            let k = rng.within(r + 1, 1 << n);
+            let code = Code::new(&mut rng, n, r, k, style);
+            for symbol in [0, 1] {
+                list.push(read_in_room(&mut rng, &code, vec![symbol; 1 << n]));
+            }
+        }
+    }
+    list
+}
+
+/// Every word of the small codes.
+fn small_codes() -> Vec<Request> {
+    let mut rng = Rng::new(317);
+    let mut list = Vec::new();
+    for code in Code::small() {
+        for word in every_word(code.length(), 2) {
+            list.push(read_in_room(&mut rng, &code, word));
+        }
+    }
+    list
+}
+
+/// No free position: one codeword, whose payload is empty and needs no room.
+fn no_payload() -> Vec<Request> {
+    let mut rng = Rng::new(318);
+    let mut list = Vec::new();
+    for n in 0..=LARGEST_EXPONENT {
+        for style in STYLES {
+            let code = Code::new(&mut rng, n, 0, 0, style);
+            let word = code.codeword(&mut rng);
+            let place = rng.below(1 << n);
+            let mut other = word.clone();
+            other[place] ^= 1;
+            list.push(read_back(&mut rng, &code, word, 0));
+            list.push(read_in_room(&mut rng, &code, other));
+        }
+    }
+    list
+}

@@ -1,0 +1,299 @@
+// Op 4, stream: inputs of whole and cut-off words, sheets and choices of wrong lengths, words
+// refused one by one, and rooms at the edge.
+
+use super::parts::{any_style, choices, first_middle_last, spoil_somehow, symbols, Code};
+use crate::calls::ANSWER_BYTES;
+use crate::limits::{LARGEST_EXPONENT, RECORD_BYTES};
+use crate::make::{bits, damaged, every_word};
+use crate::protocol::{Request, INPUT_ROOM, OUTPUT_ROOM};
+use crate::rng::Rng;
+
+pub fn all() -> Vec<Request> {
+    [
+        example(),
+        sheet_lengths(),
+        choice_lengths(),
+        empty_input(),
+        cut_off(),
+        several_words(),
+        small_codes(),
+        refused_words(),
+        rooms(),
+        longest(),
+    ]
+    .concat()
+}
+
+/// A request of op 4 with exact room; n, r and the ceiling are not looked at.
+fn stream(rng: &mut Rng, sheet: Vec<u8>, choice: Vec<u8>, input: Vec<u8>) -> Request {
+    let [n, r, ceiling] = [(); 3].map(|()| rng.pick(&[0, 0, 0, 6, 65535]));
+    let mut request = Request {
+        op: 4,
+        n,
+        r,
+        ceiling,
+        a: sheet,
+        b: input,
+        c: choice,
+        o: 0,
+    };
+    request.o = ANSWER_BYTES * records(&request);
+    request
+}
+
+/// How many records the stream is answered with.
+fn records(request: &Request) -> usize {
+    let allowed = (0..=LARGEST_EXPONENT).find(|n| request.a.len() == RECORD_BYTES << n);
+    match allowed {
+        Some(n) if request.c.len() == 2 => request.b.len().div_ceil(1 << n),
+        _ => 1,
+    }
+}
+
+/// The request with its room too short by one where it can be, exact, and longer.
+fn in_rooms(request: Request) -> [Request; 3] {
+    let exact = request.o;
+    [exact.max(1) - 1, exact, exact + 3].map(|o| Request {
+        o,
+        ..request.clone()
+    })
+}
+
+/// The request with one of these rooms.
+fn in_a_room(rng: &mut Rng, request: Request) -> Request {
+    let [short, exact, long] = in_rooms(request);
+    match rng.below(4) {
+        0 => short,
+        1 => long,
+        _ => exact,
+    }
+}
+
+/// So many words of a code with losses, each other, some of them off the code.
+fn words(rng: &mut Rng, code: &Code, count: usize) -> Vec<u8> {
+    let mut input = Vec::new();
+    for _ in 0..count {
+        let word = if rng.below(4) == 0 {
+            bits(rng, code.length())
+        } else {
+            code.codeword(rng)
+        };
+        let losses = rng.below(6);
+        input.extend(damaged(rng, &word, losses));
+    }
+    input
+}
+
+/// The whole stream of the bench.
+fn example() -> Vec<Request> {
+    let mut rng = Rng::new(400);
+    let sheet = Code::bench().sheet;
+    in_rooms(stream(&mut rng, sheet, vec![0, 63], symbols("011110002"))).to_vec()
+}
+
+/// Sheets of no allowed length, with a right and a wrong choice, with and without an input.
+fn sheet_lengths() -> Vec<Request> {
+    let mut rng = Rng::new(401);
+    let mut list = Vec::new();
+    let one = RECORD_BYTES;
+    let largest = RECORD_BYTES << LARGEST_EXPONENT;
+    for length in [
+        0,
+        1,
+        one - 1,
+        one + 1,
+        2 * one - 1,
+        2 * one + 1,
+        3 * one,
+        5 * one,
+        8 * one - 1,
+        8 * one + 1,
+        largest - one,
+        largest - 1,
+        largest + 1,
+        2 * largest,
+        INPUT_ROOM,
+    ] {
+        for choice in [2, 1] {
+            for input in [0, 5] {
+                let input = bits(&mut rng, input);
+                let request = stream(&mut rng, vec![0; length], vec![0; choice], input);
+                list.push(in_a_room(&mut rng, request));
+            }
+        }
+    }
+    list
+}
+
+/// Choices of no, one, three and four bytes, with and without an input, some with a bad record.
+fn choice_lengths() -> Vec<Request> {
+    let mut rng = Rng::new(402);
+    let mut list = Vec::new();
+    for n in 0..=LARGEST_EXPONENT {
+        for length in [0, 1, 3, 4] {
+            for input in [0, (2 << n) + 1] {
+                let mut code = Code::any(&mut rng, n, 0);
+                if rng.bit() {
+                    spoil_somehow(&mut rng, &mut code.sheet, 0);
+                }
+                let input = bits(&mut rng, input);
+                let request = stream(&mut rng, code.sheet, vec![0; length], input);
+                list.push(in_a_room(&mut rng, request));
+            }
+        }
+    }
+    list
+}
+
+/// No input and so no record, whatever the sheet and the choice hold.
+fn empty_input() -> Vec<Request> {
+    let mut rng = Rng::new(403);
+    let mut list = Vec::new();
+    for n in 0..=LARGEST_EXPONENT {
+        for (choice, bad_record) in [([0, 63], false), ([0, 63], true), ([5, 64], false)] {
+            let mut code = Code::any(&mut rng, n, 0);
+            if bad_record {
+                spoil_somehow(&mut rng, &mut code.sheet, 0);
+            }
+            let request = stream(&mut rng, code.sheet, choice.to_vec(), Vec::new());
+            list.push(in_a_room(&mut rng, request));
+        }
+    }
+    list
+}
+
+/// A last word of every length below N, or of a few where N is large, after none and two.
+fn cut_off() -> Vec<Request> {
+    let mut rng = Rng::new(404);
+    let mut list = Vec::new();
+    for n in 1..=LARGEST_EXPONENT {
+        let last = (1 << n) - 1;
+        let missing = if n < 5 {
+            (0..last).collect()
+        } else {
+            first_middle_last(last)
+        };
+        for rest in missing.into_iter().map(|missing| last - missing) {
+            for whole in [0, 2] {
+                let code = Code::any(&mut rng, n, 0);
+                let mut input = words(&mut rng, &code, whole + 1);
+                input.truncate((whole << n) + rest);
+                let request = stream(&mut rng, code.sheet, vec![0, 63], input);
+                list.push(in_a_room(&mut rng, request));
+            }
+        }
+    }
+    list
+}
+
+/// Several words that differ, under ceilings that some of them pass.
+fn several_words() -> Vec<Request> {
+    let mut rng = Rng::new(405);
+    let mut list = Vec::new();
+    for (n, r) in choices() {
+        for ceiling in [63, 63, n as u8 / 2] {
+            let code = Code::any(&mut rng, n, r);
+            let count = rng.within(6, 14);
+            let input = words(&mut rng, &code, count);
+            let request = stream(&mut rng, code.sheet, vec![r as u8, ceiling], input);
+            list.push(request);
+        }
+    }
+    list
+}
+
+/// Every word of the codes of one and of two symbols, one after the other.
+fn small_codes() -> Vec<Request> {
+    let mut rng = Rng::new(409);
+    let codes = Code::small().into_iter().filter(|code| code.n < 2);
+    codes
+        .map(|code| {
+            let input = every_word(code.length(), 3).concat();
+            stream(&mut rng, code.sheet, vec![0, 63], input)
+        })
+        .collect()
+}
+
+/// What each word is refused for: the sheet has a bad record, r is wrong or not below K, a symbol
+/// is too large, the ceiling is; several of these at once; each with a cut-off word at the end.
+fn refused_words() -> Vec<Request> {
+    let mut rng = Rng::new(406);
+    let mut list = Vec::new();
+    for n in 0..=LARGEST_EXPONENT {
+        for (bad_record, r, bad_symbol, ceiling) in [
+            (true, 0, false, 63),
+            (true, 5, true, 64),
+            (false, 255, false, 63),
+            (false, 12, true, 200),
+            (false, 11, false, 63),
+            (false, 6, true, 255),
+            (false, 0, false, 64),
+            (false, 0, true, 255),
+            (false, 0, true, 63),
+            (false, 0, false, 0),
+        ] {
+            let k = rng.within(1, 6.min(1 << n));
+            let style = any_style(&mut rng);
+            let mut code = Code::new(&mut rng, n, 0, k, style);
+            let mut input = words(&mut rng, &code, 4);
+            if bad_symbol {
+                input[(1 << n) + rng.below(1 << n)] = rng.pick(&[3, 255]);
+            }
+            if bad_record {
+                let i = rng.below(1 << n);
+                spoil_somehow(&mut rng, &mut code.sheet, i);
+            }
+            input.truncate((4 << n) - rng.below(1 << n));
+            let request = stream(&mut rng, code.sheet, vec![r, ceiling], input);
+            list.push(in_a_room(&mut rng, request));
+        }
+    }
+    list
+}
+
+/// Three words in rooms of no byte, of one record less, too short by one, exact, and longer.
+fn rooms() -> Vec<Request> {
+    let mut rng = Rng::new(407);
+    let mut list = Vec::new();
+    for n in 0..=LARGEST_EXPONENT {
+        let code = Code::any(&mut rng, n, 0);
+        let input = words(&mut rng, &code, 3);
+        let request = stream(&mut rng, code.sheet, vec![0, 63], input);
+        let exact = request.o;
+        for o in [
+            0,
+            exact - ANSWER_BYTES,
+            exact - 1,
+            exact,
+            exact + 1,
+            exact + ANSWER_BYTES,
+        ] {
+            list.push(Request {
+                o,
+                ..request.clone()
+            });
+        }
+    }
+    list
+}
+
+/// The longest inputs and outputs a request has room for.
+fn longest() -> Vec<Request> {
+    let mut rng = Rng::new(408);
+    let most = OUTPUT_ROOM / ANSWER_BYTES;
+    let mut list = Vec::new();
+    for (n, bytes, o) in [
+        (0, most, most * ANSWER_BYTES),
+        (0, most + 1, OUTPUT_ROOM),
+        (0, INPUT_ROOM, OUTPUT_ROOM),
+        (3, most << 3, OUTPUT_ROOM),
+        (LARGEST_EXPONENT, INPUT_ROOM, OUTPUT_ROOM),
+    ] {
+        let code = Code::any(&mut rng, n, 0);
+        let mut input = words(&mut rng, &code, bytes.div_ceil(1 << n));
+        input.truncate(bytes);
+        let request = stream(&mut rng, code.sheet, vec![0, 63], input);
+        list.push(Request { o, ..request });
+    }
+    list
+}
