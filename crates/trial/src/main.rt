@@ -48,6 +48,7 @@ fn call(
     match op {
         0 => Reply::Answered(codec::check_sheet(n, a, r)),
         1 => Reply::Answered(codec::encode(n, a, r, b, out)),
+        2 => Reply::Answered(decoder::decode(n, a, r, ceiling, b, out)),
         3 => Reply::Answered(codec::read_back(n, a, r, b, out)),
         _ => Reply::Unknown,
     }

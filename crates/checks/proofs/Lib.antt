@@ -1,0 +1,4 @@
+pub mod Testing
+pub mod Shifting
+pub mod Columns
+pub mod Promise

@@ -1,0 +1,253 @@
+-- The shift register over words, and the loops that run it.
+--     tap-is                   the bits of the word of coefficients are the check polynomial's
+--     fed-is, checks-is        the code's register is the model's, over words
+--     fed-tap, fed-kept        one place of the register, by the tap there
+--     Shifted, shifted-..      the register with its first words new
+--     Dividing, dividing-..    the free positions of a column, fed so far
+use mathlib.Core.Path.{_≡_, refl, sym, ap, ap₂, _∙_}
+use Prim.Native.Nat.{ℕ, zero, suc, _+_, _-_, _*_, _/_, _%_, _^_, _≤_, _<_}
+use native.Mathlib.Omega.{arith}
+use native.Mathlib.Nat.{zero-div}
+use native.Mathlib.Numerals.{add-one}
+use mathlib.Core.Bool.{Bool, true, false}
+use mathlib.Core.List.{List, [], _∷_, _++_, append-nil}
+use lib.ListN.{length-set, List·getD-append, length, take, drop, getD, set, replicate, length-append, length-map, length-replicate, drop-of-length-le}
+use lib.Seq.{getD-append-add, getD-drop, getD-at, ext-getD, drop-cons, take-suc, take-all, append-snoc, set-at, length-take-le}
+use lib.Dec.{eqb, ltb}
+use lib.Bits.{bitXor, xor-zero-r}
+use borrow.Author.Tests.{eqb-true, ltb-true, ltb-false}
+use Rattle.bits.specs.Vectors.{pick, any, tab}
+use Rattle.bits.specs.Rows.{zeroed}
+use Rattle.bits.proofs.Tests.{length-tab, tab-at}
+use Rattle.bits.proofs.RowLaws.{row-fit, zeroed-fits, paste-all}
+use Rattle.meaning.specs.Limits.{leads}
+use Rattle.meaning.specs.Sheet.{Rule, free, ruleAt, byte}
+use Rattle.meaning.specs.Check.{poly, terms}
+use Rattle.model.specs.Model.{freeOf, sums, scaled, shiftOf, restOf, checks}
+use Rattle.descent.proofs.Rules.{rule-free, rule-frozen}
+use Rattle.checks.specs.Registers.{wordValues, column, tapsOf, moved, fedAt, fed, fedAll, remainder}
+
+-- ---- the polynomial
+
+pub tap-is : (r j : ℕ) → j < r → eqb (tapsOf r / 2 ^ j % 2) 1 ≡ getD (poly r) j false
+unfolding tapsOf poly
+tap-is r j h = go (eqb r 6) (eqb r 11) refl refl
+  where
+    six : (j : ℕ) → j < 6 → eqb (33 / 2 ^ j % 2) 1 ≡ getD (tab 6 (λ (k : ℕ). any (eqb (6 - suc k)) (terms 6))) j false
+    six zero q = refl
+    six (suc zero) q = refl
+    six (suc (suc zero)) q = refl
+    six (suc (suc (suc zero))) q = refl
+    six (suc (suc (suc (suc zero)))) q = refl
+    six (suc (suc (suc (suc (suc zero))))) q = refl
+    six (suc (suc (suc (suc (suc (suc j)))))) q = absurd (omega arith)
+
+    eleven : (j : ℕ) → j < 11 → eqb (1059 / 2 ^ j % 2) 1 ≡ getD (tab 11 (λ (k : ℕ). any (eqb (11 - suc k)) (terms 11))) j false
+    eleven zero q = refl
+    eleven (suc zero) q = refl
+    eleven (suc (suc zero)) q = refl
+    eleven (suc (suc (suc zero))) q = refl
+    eleven (suc (suc (suc (suc zero)))) q = refl
+    eleven (suc (suc (suc (suc (suc zero))))) q = refl
+    eleven (suc (suc (suc (suc (suc (suc zero)))))) q = refl
+    eleven (suc (suc (suc (suc (suc (suc (suc zero))))))) q = refl
+    eleven (suc (suc (suc (suc (suc (suc (suc (suc zero)))))))) q = refl
+    eleven (suc (suc (suc (suc (suc (suc (suc (suc (suc zero))))))))) q = refl
+    eleven (suc (suc (suc (suc (suc (suc (suc (suc (suc (suc zero)))))))))) q = refl
+    eleven (suc (suc (suc (suc (suc (suc (suc (suc (suc (suc (suc j))))))))))) q = absurd (omega arith)
+
+    go : (x y : Bool) → eqb r 6 ≡ x → eqb r 11 ≡ y
+        → eqb (pick x 33 (pick y 1059 0) / 2 ^ j % 2) 1 ≡ getD (tab r (λ (k : ℕ). any (eqb (r - suc k)) (pick x (5 ∷ 0 ∷ []) (pick y (10 ∷ 9 ∷ 5 ∷ 0 ∷ []) [])))) j false
+    go true y p q = let e = eqb-true r 6 p in let i : j < 6 = omega arith in rw e (six j i)
+    go false true p q = let e = eqb-true r 11 q in let i : j < 11 = omega arith in rw e (eleven j i)
+    go false false p q = rw (tab-at r (λ (k : ℕ). false) j false h, zero-div (2 ^ j)) refl
+
+pub length-poly : (r : ℕ) → length (poly r) ≡ r
+unfolding poly
+length-poly r = length-tab r _
+
+-- ---- the model's register
+
+length-fed : (r : ℕ) (s : List ℕ) (b : ℕ) → length (fed r s b) ≡ r
+unfolding fed
+length-fed r s b = length-tab r _
+
+module _ (unit : ℕ) where
+  length-sums : (a b : List ℕ) → length a ≡ length b → length (sums (wordValues unit) a b) ≡ length a
+  length-sums [] b e = refl
+  length-sums (x ∷ a) [] e = absurd (omega arith)
+  length-sums (x ∷ a) (y ∷ b) e = ap suc (length-sums a b (omega arith))
+
+  getD-sums : (a b : List ℕ) (j : ℕ) → length a ≡ length b → j < length a → getD (sums (wordValues unit) a b) j 0 ≡ bitXor (getD a j 0) (getD b j 0)
+  getD-sums [] b j e h = absurd (omega arith)
+  getD-sums (x ∷ a) [] j e h = absurd (omega arith)
+  getD-sums (x ∷ a) (y ∷ b) zero e h = refl
+  getD-sums (x ∷ a) (y ∷ b) (suc j) e h = getD-sums a b j (omega arith) (omega arith)
+
+  getD-scaled : (g : List Bool) (o j : ℕ) → j < length g → getD (scaled (wordValues unit) g o) j 0 ≡ pick (getD g j false) o 0
+  getD-scaled [] o j h = absurd (omega arith)
+  getD-scaled (true ∷ g) o zero h = refl
+  getD-scaled (false ∷ g) o zero h = refl
+  getD-scaled (x ∷ g) o (suc j) h = getD-scaled g o j (omega arith)
+
+  -- the words behind the first, and the new one
+  moved-at : (x : ℕ) (s : List ℕ) (b j : ℕ) → j < suc (length s) → getD (s ++ (b ∷ [])) j 0 ≡ moved (x ∷ s) b j
+  moved-at x s b j h = go (ltb (j + 1) (suc (length s))) refl
+    where
+      go : (t : Bool) → ltb (j + 1) (suc (length s)) ≡ t → getD (s ++ (b ∷ [])) j 0 ≡ pick t (getD (x ∷ s) (j + 1) 0) b
+      go true e = let i = ltb-true (j + 1) (suc (length s)) e in rw (add-one j) (List·getD-append s (b ∷ []) 0 j (omega arith))
+      go false e = let i = ltb-false (j + 1) (suc (length s)) e in getD-at s b [] 0 j (omega arith)
+
+  pub fed-is : (r : ℕ) (s : List ℕ) (b : ℕ) → length s ≡ r → shiftOf (wordValues unit) (poly r) s b ≡ fed r s b
+  unfolding fed
+  fed-is zero [] b e = refl
+  fed-is (suc r) [] b e = absurd (omega arith)
+  fed-is r (o ∷ s) b e =
+      let x = s ++ (b ∷ []) in
+      let y = scaled (wordValues unit) (poly r) o in
+      let ly : length y ≡ r = length-map (poly r) _ ∙ length-poly r in
+      let lx : length x ≡ r = length-append s (b ∷ []) ∙ omega arith in
+      let le : length (sums (wordValues unit) x y) ≡ r = length-sums x y (lx ∙ sym ly) ∙ lx in
+      ext-getD 0 (sums (wordValues unit) x y) (tab r (fedAt r (o ∷ s) b o)) (le ∙ sym (length-tab r (fedAt r (o ∷ s) b o)))
+      (λ j h.
+      let i : j < r = omega arith in
+      getD-sums x y j (lx ∙ sym ly) (omega arith)
+      ∙ ap₂ bitXor (moved-at o s b j (omega arith)) (getD-scaled (poly r) o j (omega (arith, length-poly r)))
+      ∙ sym (tab-at r (fedAt r (o ∷ s) b o) j 0 i))
+
+  rest-is : (r : ℕ) (s v : List ℕ) → length s ≡ r → restOf (wordValues unit) (poly r) s v ≡ fedAll r s v
+  rest-is r s [] e = refl
+  rest-is r s (b ∷ v) e = ap (λ (x : List ℕ). restOf (wordValues unit) (poly r) x v) (fed-is r s b e) ∙ rest-is r (fed r s b) v (length-fed r s b)
+
+  -- the check has no leading bits: the one place of the crate where the value of `leads` is used. With bits, `divide` feeds them
+  -- first, each times word k of the constant's row (Columns.unitWord), and `remainder` starts with them
+  leads-none : (r : ℕ) (v : List ℕ) → scaled (wordValues unit) (leads r) unit ++ v ≡ v
+  unfolding leads
+  leads-none r v = refl
+
+  pub checks-is : (r : ℕ) (ks : List Rule) (v : List ℕ) → checks (wordValues unit) r ks v ≡ fedAll r (replicate r 0) (freeOf ks v)
+  checks-is r ks v = ap (restOf (wordValues unit) (poly r) (replicate r 0)) (leads-none r (freeOf ks v)) ∙ rest-is r (replicate r 0) (freeOf ks v) (length-replicate r 0)
+
+length-fedAll : (r : ℕ) (s v : List ℕ) → length s ≡ r → length (fedAll r s v) ≡ r
+length-fedAll r s [] e = e
+length-fedAll r s (b ∷ v) e = length-fedAll r (fed r s b) v (length-fed r s b)
+
+pub length-remainder : (r : ℕ) (sheet : List ℕ) (n : ℕ) (us : List ℕ) (w k : ℕ) → length (remainder r sheet n us w k) ≡ r
+unfolding remainder
+length-remainder r sheet n us w k = length-fedAll r (replicate r 0) (freeOf (tab n (ruleAt sheet)) (column w n us k)) (length-replicate r 0)
+
+-- ---- one place of the register, by the tap there
+
+module _ (r : ℕ) (s : List ℕ) (b o j x : ℕ) (e : x ≡ moved s b j) (t : Bool) (q : t ≡ getD (poly r) j false) where
+  pub fed-tap : t ≡ true → bitXor x o ≡ fedAt r s b o j
+  fed-tap h = ap₂ bitXor e (rw (sym q ∙ h) refl)
+
+  pub fed-kept : t ≡ false → x ≡ fedAt r s b o j
+  fed-kept h = e ∙ sym (xor-zero-r (moved s b j)) ∙ ap (bitXor (moved s b j)) (rw (sym q ∙ h) refl)
+
+pub fed-nothing : (s : List ℕ) (b : ℕ) → length s ≡ 0 → s ≡ fed (length s) s b
+unfolding fed
+fed-nothing [] b e = refl
+fed-nothing (x ∷ s) b e = absurd (omega arith)
+
+-- ---- a list that is written from its front on
+
+pub fill-next : (l new : List ℕ) (j : ℕ) → j < length l → length new ≡ length l → set (take j new ++ drop j l) j (getD new j 0) ≡ take (j + 1) new ++ drop (j + 1) l
+fill-next l new j h e =
+    rw (add-one j, drop-cons l j 0 h, take-suc new j 0 (omega arith))
+    (set-at (take j new) (getD l j 0) (drop (suc j) l) (getD new j 0) j (length-take-le j new (omega arith)) ∙ sym (append-snoc (take j new) (getD new j 0) (drop (suc j) l)))
+
+fill-after : (l new : List ℕ) (j k : ℕ) → j ≤ k → j ≤ length l → length new ≡ length l → getD (take j new ++ drop j l) k 0 ≡ getD l k 0
+fill-after l new j k h i e =
+    let t = length-take-le j new (omega arith) in
+    let q : j + (k - j) ≡ k = omega arith in
+    let p : length (take j new) + (k - j) ≡ k = omega arith in
+    ap (λ (x : ℕ). getD (take j new ++ drop j l) x 0) (sym p) ∙ getD-append-add (take j new) (drop j l) (k - j) 0 ∙ getD-drop j l (k - j) 0 ∙ ap (λ (x : ℕ). getD l x 0) q
+
+-- the register s, its first j words new
+pub record Shifted (s : List ℕ) (b : ℕ) (reg : List ℕ) (j : ℕ) : Type 0 where
+  pub some : j ≤ length s
+  pub size : length reg ≡ length s
+  pub is : reg ≡ take j (fed (length s) s b) ++ drop j s
+
+pub shifted-none : (s : List ℕ) (b : ℕ) → Shifted s b s 0
+shifted-none s b = record { some = omega arith; size = refl; is = refl }
+
+pub shifted-next : (s : List ℕ) (b : ℕ) (reg : List ℕ) (j z : ℕ) → Shifted s b reg j → j < length s → z ≡ fedAt (length reg) reg b (getD s 0 0) j → Shifted s b (set reg j z) (j + 1)
+unfolding fed
+shifted-next s b reg j z p h e =
+    let r = length s in
+    let new = fed r s b in
+    let ln : length new ≡ r = length-fed r s b in
+    let mv : getD reg (j + 1) 0 ≡ getD s (j + 1) 0 = ap (λ (l : List ℕ). getD l (j + 1) 0) (p .is) ∙ fill-after s new j (j + 1) (omega arith) (p .some) ln in
+    let v : z ≡ getD new j 0 = e ∙ rw (p .size, mv) (sym (tab-at r (fedAt r s b (getD s 0 0)) j 0 h)) in
+    record {
+      some = omega arith;
+      size = length-set reg j z ∙ p .size;
+      is = ap₂ (λ (l : List ℕ) (x : ℕ). set l j x) (p .is) v ∙ fill-next s new j h ln;
+    }
+
+pub shifted-all : (s : List ℕ) (b : ℕ) (reg : List ℕ) (j : ℕ) → Shifted s b reg j → length s ≤ j → reg ≡ fed (length s) s b
+shifted-all s b reg j p h =
+    let new = fed (length s) s b in
+    let ln : length new ≡ length s = length-fed (length s) s b in
+    p .is ∙ ap₂ (λ (x y : List ℕ). x ++ y) (take-all j new (omega arith)) (drop-of-length-le s {i = j} h) ∙ append-nil new
+
+-- a register of zeros
+pub zeroed-all : (s reg : List ℕ) → reg ≡ zeroed s 0 (length s) → reg ≡ replicate (length reg) 0
+zeroed-all s reg e =
+    let q : reg ≡ replicate (length s) 0 = e ∙ zeroed-fits s 0 (length s) (omega arith) ∙ paste-all s (replicate (length s) 0) (length s) refl (length-replicate (length s) 0) in
+    q ∙ ap (λ (n : ℕ). replicate n 0) (sym (ap length q ∙ length-replicate (length s) 0))
+
+-- ---- the free positions of a column, fed one after the other
+
+module _ (r : ℕ) (sheet : List ℕ) (n : ℕ) (us : List ℕ) (w k : ℕ) where
+  abbrev ks : List Rule
+  ks = tab n (ruleAt sheet)
+
+  abbrev vs : List ℕ
+  vs = column w n us k
+
+  -- what is left to feed, when i positions are done
+  pub record Dividing (reg : List ℕ) (i : ℕ) : Type 0 where
+    pub some : i ≤ n
+    pub size : length reg ≡ r
+    pub left : fedAll r reg (freeOf (drop i ks) (drop i vs)) ≡ remainder r sheet n us w k
+
+  pub dividing-none : (reg : List ℕ) → reg ≡ replicate r 0 → Dividing reg 0
+  unfolding remainder
+  dividing-none reg e = record { some = omega arith; size = ap length e ∙ length-replicate r 0; left = ap (λ (s : List ℕ). fedAll r s (freeOf ks vs)) e }
+
+  -- where word k of row i is
+  pub column-room : (i : ℕ) → length us ≡ n * w → k < w → i < n → i * w + k < length us
+  column-room i l hk h = let f = row-fit i n w h in omega arith
+
+  rules-at : (i : ℕ) → i < n → drop i ks ≡ ruleAt sheet i ∷ drop (suc i) ks
+  rules-at i h = drop-cons ks i free (omega (arith, length-tab n (ruleAt sheet))) ∙ ap {B = List Rule} (λ x. x ∷ drop (suc i) ks) (tab-at n (ruleAt sheet) i free h)
+
+  words-at : (i : ℕ) → i < n → drop i vs ≡ getD us (i * w + k) 0 ∷ drop (suc i) vs
+  words-at i h =
+      let f : ℕ → ℕ = λ x. getD us (x * w + k) 0 in
+      drop-cons vs i 0 (omega (arith, length-tab n f)) ∙ ap {B = List ℕ} (λ x. x ∷ drop (suc i) vs) (tab-at n f i 0 h)
+
+  module _ (reg : List ℕ) (i t : ℕ) (p : Dividing reg i) (h : i < n) (e : t ≡ byte sheet i 0) where
+    pub dividing-free : t ≡ 0 → (reg′ : List ℕ) → reg′ ≡ fed (length reg) reg (getD us (i * w + k) 0) → Dividing reg′ (i + 1)
+    dividing-free z reg′ q =
+        let b = getD us (i * w + k) 0 in
+        let x : reg′ ≡ fed r reg b = q ∙ ap (λ (l : ℕ). fed l reg b) (p .size) in
+        let cut : freeOf (drop i ks) (drop i vs) ≡ b ∷ freeOf (drop (suc i) ks) (drop (suc i) vs) = rw (rules-at i h, rule-free sheet i t e z, words-at i h) in
+        record {
+          some = omega arith;
+          size = ap length x ∙ length-fed r reg b;
+          left = rw (add-one i, x) (sym (ap (fedAll r reg) cut) ∙ p .left);
+        }
+
+    pub dividing-frozen : (t ≡ 0 → ⊥) → Dividing reg (i + 1)
+    dividing-frozen z =
+        let cut : freeOf (drop i ks) (drop i vs) ≡ freeOf (drop (suc i) ks) (drop (suc i) vs) = rw (rules-at i h, rule-frozen sheet i t e z, words-at i h) in
+        record { some = omega arith; size = p .size; left = rw (add-one i) (sym (ap (fedAll r reg) cut) ∙ p .left) }
+
+  pub dividing-all : (reg : List ℕ) (i : ℕ) → Dividing reg i → n ≤ i → reg ≡ remainder r sheet n us w k
+  dividing-all reg i p h =
+      let a : drop i ks ≡ [] = drop-of-length-le ks {i = i} (omega (arith, length-tab n (ruleAt sheet))) in
+      sym (ap (λ (l : List Rule). fedAll r reg (freeOf l (drop i vs))) a) ∙ p .left

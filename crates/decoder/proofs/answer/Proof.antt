@@ -1,0 +1,123 @@
+use mathlib.Core.Path.{sym, ap, _∙_}
+use borrow.Author.Needs.{needs}
+use Rattle.descent.specs.Descending.{descended}
+use Rattle.descent.specs.declared.Descent.{Descent}
+use Rattle.decoder.proofs.Descents.{never-misfit, too-many, settling, decided}
+use Rattle.decoder.proofs.answer.Statement.{statement}
+use Rattle.decoder.proofs.answer.Tie as tie
+
+descend-requires : tie.Need-descend-requires
+descend-requires c κs = search needs
+
+enum-told : tie.Need-enum-told
+enum-told c = search needs
+
+enum-known-g : tie.Need-enum-known-g
+enum-known-g c = search needs
+
+enum-known-g-2 : tie.Need-enum-known-g-2
+enum-known-g-2 c = search needs
+
+settle-requires : tie.Need-settle-requires
+settle-requires c κs =
+    let told = c .before .before .before .before in
+    let call = told .before .before .before .before .before .before .before .before .before in
+    let start = call .before .before .before .before .before .before .before .before .before .before in
+    let A = start .args in
+    let D = call .descend in
+    let v = D .last .1 .1 .1 .1 .1 .1 .0 in
+    let u = D .last .1 .1 .1 .1 .1 .1 .1 .0 in
+    let e = D .last .1 .1 .1 .1 .1 .1 .1 .1 .0 in
+    let q = ap (λ (a : Descent). descended a v u e) (sym (told .before .g2 .given .1)) ∙ D .ensures in
+    settling (A .n) (A .sheet .now) (A .r) (A .ceiling) (A .word .now) (A .out .now) (A .vals .now) (A .us .now) (A .eqs .now) (start .pre .0) (start .pre .1 .0) (start .pre .1 .1) (start .pre .1 .2) _ _ v u e q (D .kept .1 .1 .1 .1 .1 .1 .0) (D .kept .1 .1 .1 .1 .1 .1 .1 .0) (D .kept .1 .1 .1 .1 .1 .1 .1 .1 .0)
+
+same-length : tie.Need-same-length
+same-length c = search needs
+
+same-length-2 : tie.Need-same-length-2
+same-length-2 c = search needs
+
+same-length-3 : tie.Need-same-length-3
+same-length-3 c = search needs
+
+returns : tie.Need-returns
+returns c =
+    let call = c .before .before .before .before .before .before .before .before in
+    let start = call .before .before .before .before .before .before .before .before .before .before in
+    let A = start .args in
+    let D = call .descend in
+    let v = D .last .1 .1 .1 .1 .1 .1 .0 in
+    let u = D .last .1 .1 .1 .1 .1 .1 .1 .0 in
+    let e = D .last .1 .1 .1 .1 .1 .1 .1 .1 .0 in
+    let q = ap (λ (a : Descent). descended a v u e) (sym (c .enum-told .given .1)) ∙ D .ensures in
+    never-misfit (A .n) (A .sheet .now) (A .r) (A .ceiling) (A .word .now) (A .out .now) (A .vals .now) (A .us .now) (A .eqs .now) (start .pre .0) (start .pre .1 .0) (start .pre .1 .1) (start .pre .1 .2) v u e q
+
+same-length-4 : tie.Need-same-length-4
+same-length-4 c = search needs
+
+same-length-5 : tie.Need-same-length-5
+same-length-5 c = search needs
+
+same-length-6 : tie.Need-same-length-6
+same-length-6 c = search needs
+
+returns-2 : tie.Need-returns-2
+returns-2 c =
+    let call = c .before .before .before .before .before .before .before .before .before in
+    let start = call .before .before .before .before .before .before .before .before .before .before in
+    let A = start .args in
+    let D = call .descend in
+    let v = D .last .1 .1 .1 .1 .1 .1 .0 in
+    let u = D .last .1 .1 .1 .1 .1 .1 .1 .0 in
+    let e = D .last .1 .1 .1 .1 .1 .1 .1 .1 .0 in
+    let q = ap (λ (a : Descent). descended a v u e) (sym (c .before .g .given .1)) ∙ D .ensures in
+    too-many (A .n) (A .sheet .now) (A .r) (A .ceiling) (A .word .now) (A .out .now) (A .vals .now) (A .us .now) (A .eqs .now) (start .pre .0) (start .pre .1 .0) (start .pre .1 .1) (start .pre .1 .2) _ v u e q
+
+same-length-7 : tie.Need-same-length-7
+same-length-7 c = search needs
+
+same-length-8 : tie.Need-same-length-8
+same-length-8 c = search needs
+
+same-length-9 : tie.Need-same-length-9
+same-length-9 c = search needs
+
+same-length-10 : tie.Need-same-length-10
+same-length-10 c = search needs
+
+returns-3 : tie.Need-returns-3
+returns-3 c =
+    let settled = c .before .before .before .before .before .before in
+    let told = settled .before .before .before .before .before in
+    let call = told .before .before .before .before .before .before .before .before .before in
+    let start = call .before .before .before .before .before .before .before .before .before .before in
+    let A = start .args in
+    let D = call .descend in
+    let v = D .last .1 .1 .1 .1 .1 .1 .0 in
+    let u = D .last .1 .1 .1 .1 .1 .1 .1 .0 in
+    let e = D .last .1 .1 .1 .1 .1 .1 .1 .1 .0 in
+    let q = ap (λ (a : Descent). descended a v u e) (sym (told .before .g2 .given .1)) ∙ D .ensures in
+    settled .settle .ensures ∙ decided (A .n) (A .sheet .now) (A .r) (A .ceiling) (A .word .now) (A .out .now) (A .vals .now) (A .us .now) (A .eqs .now) (start .pre .0) (start .pre .1 .0) (start .pre .1 .1) (start .pre .1 .2) _ _ v u e q (D .kept .1 .1 .1 .1 .1 .1 .0) (D .kept .1 .1 .1 .1 .1 .1 .1 .0) (D .kept .1 .1 .1 .1 .1 .1 .1 .1 .0)
+
+pub answer-spec : {M : Type 1} → statement M
+answer-spec =
+    tie.close
+    (tie.spec
+    descend-requires
+    enum-told
+    enum-known-g
+    enum-known-g-2
+    settle-requires
+    same-length
+    same-length-2
+    same-length-3
+    returns
+    same-length-4
+    same-length-5
+    same-length-6
+    returns-2
+    same-length-7
+    same-length-8
+    same-length-9
+    same-length-10
+    returns-3)

@@ -1,0 +1,79 @@
+use mathlib.Core.Path.{ap, _∙_}
+use native.Mathlib.Omega.{arith}
+use borrow.Author.Needs.{needs}
+use Rattle.gf2.specs.Solve.{Sys}
+use Rattle.verdict.specs.Reading.{rowVerdict}
+use Rattle.decoder.proofs.Solver.{never-misfit, rank-is, system-is}
+use Rattle.decoder.proofs.solving.finish.Statement.{statement}
+use Rattle.decoder.proofs.solving.finish.Tie as tie
+
+eliminate-requires : tie.Need-eliminate-requires
+eliminate-requires c κs = search needs
+
+enum-told : tie.Need-enum-told
+enum-told c = search needs
+
+enum-known-rank : tie.Need-enum-known-rank
+enum-known-rank c = search needs
+
+conclude-requires : tie.Need-conclude-requires
+conclude-requires c κs =
+    let told = c .before .before .before in
+    let call = told .before .before .before .before .before .before .before in
+    let start = call .before .before .before .before .before .before in
+    let E = call .eliminate in
+    let A = start .args in
+    let ke = E .kept .0 in
+    let kv = E .kept .1 .0 in
+    let k = rank-is (A .eqs .now) (A .vals .now) (E .last .0) (E .last .1 .0) (E .result) (start .pre .1 .0) (start .pre .0 .1) (E .ensures) _ (told .before .rank .given .1) in
+    ((start .pre .0 .0, omega arith, omega arith), (omega (arith, k, start .pre .1 .1), omega arith))
+
+same-length : tie.Need-same-length
+same-length c = search needs
+
+same-length-2 : tie.Need-same-length-2
+same-length-2 c = search needs
+
+returns : tie.Need-returns
+returns c =
+    let call = c .before .before .before .before .before .before in
+    let start = call .before .before .before .before .before .before in
+    let E = call .eliminate in
+    let A = start .args in
+    never-misfit (A .eqs .now) (A .vals .now) (E .last .0) (E .last .1 .0) (E .result) (start .pre .1 .0) (start .pre .0 .1) (E .ensures) (c .enum-told .given .1)
+
+same-length-3 : tie.Need-same-length-3
+same-length-3 c = search needs
+
+same-length-4 : tie.Need-same-length-4
+same-length-4 c = search needs
+
+same-length-5 : tie.Need-same-length-5
+same-length-5 c = search needs
+
+returns-2 : tie.Need-returns-2
+returns-2 c =
+    let concluded = c .before .before in
+    let told = concluded .before .before .before .before in
+    let call = told .before .before .before .before .before .before .before in
+    let start = call .before .before .before .before .before .before in
+    let E = call .eliminate in
+    let A = start .args in
+    concluded .conclude .ensures
+    ∙ ap (λ (s : Sys). rowVerdict 1 (A .g) (A .m) s (A .out .now)) (system-is (A .eqs .now) (A .vals .now) (E .last .0) (E .last .1 .0) (E .result) (start .pre .1 .0) (start .pre .0 .1) (E .ensures) _ (told .before .rank .given .1))
+
+pub finish-spec : {M : Type 1} → statement M
+finish-spec =
+    tie.close
+    (tie.spec
+    eliminate-requires
+    enum-told
+    enum-known-rank
+    conclude-requires
+    same-length
+    same-length-2
+    returns
+    same-length-3
+    same-length-4
+    same-length-5
+    returns-2)

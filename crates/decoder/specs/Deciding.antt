@@ -1,0 +1,55 @@
+-- Decoding, part by part.
+--     deciding       what is left once no fault of form is found: too many unknowns, or the verdict
+--     systemRows     the equations of a descent, then those of the check
+--     Settling       what the last step needs of a descent
+--     Formed         no fault of form: what the refusals 11 to 17 leave
+use mathlib.Core.Path.{_≡_}
+use mathlib.Core.Logic.{_⊎_}
+use Prim.Native.Nat.{ℕ, _+_, _*_, _^_, _≤_}
+use mathlib.Core.Bool.{true}
+use mathlib.Core.List.{List, _++_}
+use lib.ListN.{length}
+use lib.Dec.{ltb}
+use Rattle.bits.specs.Vectors.{pick}
+use Rattle.bits.specs.Rows.{Row, rows}
+use Rattle.meaning.specs.Limits.{largestN, recordBytes, largestCeiling}
+use Rattle.meaning.specs.Sheet.{rules, frees, early}
+use Rattle.meaning.specs.Codewords.{candidates}
+use Rattle.meaning.specs.Open.{unknowns, equations}
+use Rattle.meaning.specs.Answers.{Reply, leaving, verdict}
+use Rattle.meaning.specs.declared.Answer.the-variants.{TooMany}
+use Rattle.gf2.specs.Rows.{rowsOf}
+use Rattle.gf2.specs.Solve.{solve}
+use Rattle.model.specs.Model.{checks}
+use Rattle.descent.specs.Values.{rowValues}
+
+unfoldable pub deciding : ℕ → List ℕ → ℕ → ℕ → List ℕ → List ℕ → Reply
+deciding n s r c w out =
+    let ks = rules n s in
+    let g = unknowns n ks w in
+    pick (ltb c g) (leaving out (TooMany g)) (verdict n g (equations n ks r w) (candidates n ks r w) out)
+
+unfoldable pub systemRows : ℕ → List ℕ → ℕ → ℕ → List ℕ → List ℕ → List Row
+systemRows n s r m us eqs = rows 2 m eqs ++ checks (rowValues 1 2) r (rules n s) (rows 2 (2 ^ n) us)
+
+pub record Formed (n : ℕ) (s : List ℕ) (r c : ℕ) (w out : List ℕ) : Type 0 where
+  pub small : n ≤ largestN
+  pub long : length s ≡ 2 ^ n * recordBytes
+  pub ordered : early 0 (rules n s) ≡ true
+  pub check : (r ≡ 0) ⊎ ((r ≡ 6) ⊎ (r ≡ 11))
+  pub enough : r ≤ frees (rules n s)
+  pub symbols : length w ≡ 2 ^ n
+  pub room : 3 * 2 ^ n ≤ length out
+  pub low : c ≤ largestCeiling
+
+-- what a descent leaves, with room for the check's rows and the answer
+pub record Settling (n : ℕ) (s : List ℕ) (r g m : ℕ) (us eqs vals : List ℕ) (room : ℕ) : Type 0 where
+  pub small : n ≤ largestN
+  pub long : length s ≡ 2 ^ n * recordBytes
+  pub check : (r ≡ 0) ⊎ ((r ≡ 6) ⊎ (r ≡ 11))
+  pub rows-u : length us ≡ 2 ^ n * 2
+  pub rows-v : length vals ≡ 2 ^ n * 2
+  pub rows-e : (m + r) * 2 ≤ length eqs
+  pub low : g ≤ 63
+  pub roomy : 3 * 2 ^ n ≤ room
+  pub rank : (solve 1 (systemRows n s r m us eqs) (rowsOf 2 vals)) .rank ≤ g

@@ -1,0 +1,124 @@
+// The decoder: what can be known of a word with erasures. It is total: what is faulty is refused with its number, in 01's
+// order, and a refusal leaves the output as found.
+ghost use mathlib.Core.Path.{_≡_};
+ghost use Prim.Native.Nat.{_*_, _^_, _≤_};
+ghost use lib.ListN.{length};
+ghost use Rattle.meaning.specs.Limits.{largestN};
+ghost use Rattle.meaning.specs.Answers.{leaving, decoding};
+ghost use Rattle.decoder.specs.Deciding.{deciding, Formed};
+
+mod reading;
+mod solving;
+mod strips;
+
+use descent::Descent;
+use meaning::Answer;
+
+// The most unknowns that a caller may allow.
+const LARGEST_CEILING: usize = 63;
+
+// The words of the rows of N symbols, for the largest N: two words a row.
+const WORDS: usize = 256;
+
+// N, 2 to the n.
+fn size_of(n: usize) -> usize
+    requires { ⌜ n ≤ largestN ⌝ }
+    ensures { λ r. ⌜ r ≡ 2 ^ n ⌝ }
+{
+    1 << n
+}
+
+// Answers where no fault of form is found: too many unknowns, or the verdict. The three slices hold N rows of two words.
+fn answer(
+    n: usize,
+    sheet: &[u8],
+    r: usize,
+    ceiling: usize,
+    word: &[u8],
+    vals: &mut [u64],
+    us: &mut [u64],
+    eqs: &mut [u64],
+    out: &mut [u8],
+) -> Answer
+    requires { ⌜ Formed n (now sheet) r ceiling (now word) (now out) ⌝ }
+    requires { ⌜ (length (now vals) ≡ 2 ^ n * 2) × (length (now us) ≡ 2 ^ n * 2) × (length (now eqs) ≡ 2 ^ n * 2) ⌝ }
+    ensures { λ a. ⌜ leaving (now (out .exit)) a ≡ deciding n (now (sheet .entry)) r ceiling (now (word .entry)) (now (out .entry)) ⌝ }
+{
+    match descent::descend(n, sheet, word, ceiling, 1, 2, vals, us, eqs) {
+        Descent::Misfit => Answer::BadShape,
+        Descent::Over { g } => Answer::TooMany { g },
+        Descent::Done { g, m } => solving::settle(n, sheet, r, g, m, us, eqs, vals, out),
+    }
+}
+
+// `decode`, with room for the rows.
+fn decode_in(
+    n: usize,
+    sheet: &[u8],
+    r: usize,
+    ceiling: usize,
+    word: &[u8],
+    vals: &mut [u64],
+    us: &mut [u64],
+    eqs: &mut [u64],
+    out: &mut [u8],
+) -> Answer
+    requires { ⌜ (2 ^ largestN * 2 ≤ length (now vals)) × (2 ^ largestN * 2 ≤ length (now us)) × (2 ^ largestN * 2 ≤ length (now eqs)) ⌝ }
+    ensures { λ a. ⌜ leaving (now (out .exit)) a ≡ decoding n (now (sheet .entry)) r ceiling (now (word .entry)) (now (out .entry)) ⌝ }
+{
+    let a = codec::check_sheet(n, sheet, r);
+    if !meaning::is_done(a) {
+        return a;
+    }
+    let size = size_of(n);
+    let b = codec::check_word(word, size, 2, out.len(), 3 * size);
+    if !meaning::is_done(b) {
+        return b;
+    }
+    if LARGEST_CEILING < ceiling {
+        return Answer::BadCeiling;
+    }
+    let k = size * 2;
+    answer(
+        n,
+        sheet,
+        r,
+        ceiling,
+        word,
+        &mut vals[0..k],
+        &mut us[0..k],
+        &mut eqs[0..k],
+        out,
+    )
+}
+
+// Says what can be known of a word of N symbols: 0, 1, or 2 where the symbol is erased.
+// Answers Unique (0), Ambiguous (1) or Inconsistent (2), with g unknowns, m equations and dimension d. Unique and Ambiguous
+// write 3N bytes: the settled strip (2 where candidates differ), the first candidate and the last; later bytes are as found.
+// Refuses by 11 to 18 (check_sheet; 14: the word is not N long; 15: the first symbol above 2; 16: the output is shorter than
+// 3N; 17: the ceiling is above 63; 18: g is above the ceiling). Inconsistent and refusals leave the output as found.
+pub fn decode(
+    n: usize,
+    sheet: &[u8],
+    r: usize,
+    ceiling: usize,
+    word: &[u8],
+    out: &mut [u8],
+) -> Answer
+    ensures { λ a. ⌜ leaving (now (out .exit)) a ≡ decoding n (now (sheet .entry)) r ceiling (now (word .entry)) (now (out .entry)) ⌝ }
+{
+    let mut vals = [0u64; WORDS];
+    let mut us = [0u64; WORDS];
+    let mut eqs = [0u64; WORDS];
+    decode_in(
+        n,
+        sheet,
+        r,
+        ceiling,
+        word,
+        &mut vals,
+        &mut us,
+        &mut eqs,
+        out,
+    )
+}
