@@ -1,0 +1,190 @@
+-- What decoding answers fits a record.
+--     by-rows              a fact of whatever a table of refusals gives
+--     keeps-length         decoding leaves a buffer of the same length
+--     fits-a-byte          each of its five numbers is below 256
+--     numbers-five         there are five
+use mathlib.Core.Path.{_≡_, refl, sym, ap, _∙_}
+use mathlib.Core.Logic.{_⊎_, inl, inr}
+use Prim.Native.Nat.{ℕ, zero, suc, _+_, _-_, _*_, _^_, _≤_, _<_}
+use native.Mathlib.Omega.{arith}
+use mathlib.Core.Bool.{Bool, true, false}
+use mathlib.Core.List.{List, [], _∷_, _++_, map, List·Memᴰ, List·Memᴰ·head, List·Memᴰ·tail}
+use lib.ListN.{length, drop, length-append, length-drop, length-map}
+use lib.Dec.{ltb}
+use lib.Pow.{pow-mono}
+use borrow.Author.Tests.{ltb-true, ltb-false, lt-ltb, eqb-true, not-false}
+use Rattle.bits.specs.Vectors.{bit, pick, ones, firstPlace}
+use Rattle.bits.proofs.Tests.{length-tab, count-le}
+use Rattle.meaning.specs.Limits.{largestN}
+use Rattle.meaning.specs.Sheet.{Rule, free, frozen, rules, early, badRecord}
+use Rattle.meaning.specs.Codewords.{candidates}
+use Rattle.meaning.specs.Open.{openFree, closedFrozen, openAll, isOpen, unknowns, equations}
+use Rattle.meaning.specs.Strips.{settledAt, settled, first, last, strips, dimension}
+use Rattle.meaning.specs.Answers.{Refusal, firstOf, Reply, leaving, numbersOf, sheetRefusals, wordRefusals, formRefusals, decodeRefusals, refuses, verdict, decoding}
+use Rattle.meaning.specs.declared.Answer.{Answer}
+use Rattle.meaning.specs.declared.Answer.the-variants.{Done, Unique, Ambiguous, Inconsistent, BadShape, BadRecord, BadCheck, BadLength, BadSymbol, ShortOutput, BadCeiling, TooMany}
+use Rattle.meaning.proofs.Sound.{length-rules}
+use Rattle.meaning.proofs.Candidates.{candidate}
+use Rattle.meaning.proofs.Polar.{length-polar}
+use Rattle.meaning.proofs.Dimension.{dimension-is}
+use Rattle.meaning.proofs.Gap.{d-le-g}
+use Rattle.meaning.proofs.Forms.{Good, good}
+use Rattle.stream.specs.Laying.{small, Small}
+
+-- a fact of what each row answers, and of what is given where none applies
+module _ (P : Reply → Type 0) (out : List ℕ) (z : Reply) where
+  abbrev Rows : List Refusal → Type 0
+  Rows [] = P z
+  Rows (t ∷ ts) = (t .applies ≡ true → P (leaving out (t .answer))) × (t .applies ≡ false → Rows ts)
+
+  by-rows : (ts : List Refusal) → Rows ts → P (firstOf (leaving out) ts z)
+  by-rows [] h = h
+  by-rows (t ∷ ts) (f, g) = go (t .applies) f (λ e. by-rows ts (g e))
+    where
+      go : (b : Bool) → (b ≡ true → P (leaving out (t .answer))) → (b ≡ false → P (firstOf (leaving out) ts z)) → P (pick b (leaving out (t .answer)) (firstOf (leaving out) ts z))
+      go true p q = p refl
+      go false p q = q refl
+
+-- ---- the length of the buffer
+
+candidate-long : (n : ℕ) (ks : List Rule) (r : ℕ) (w : List ℕ) (x : List Bool) → List·Memᴰ x (candidates n ks r w) → length x ≡ 2 ^ n
+candidate-long n ks r w x m = let (u, l, p, e) = candidate n ks r w x m in ap length (sym e) ∙ length-polar n u l
+
+last-long : (k : ℕ) (cs : List (List Bool)) → 0 < length cs → ((x : List Bool) → List·Memᴰ x cs → length x ≡ k) → length (last cs) ≡ k
+last-long k [] h f = absurd (omega arith)
+last-long k (x ∷ []) h f = length-map x bit ∙ f x (List·Memᴰ·head refl)
+last-long k (x ∷ y ∷ cs) h f = last-long k (y ∷ cs) (omega arith) (λ z m. f z (List·Memᴰ·tail m))
+
+strips-long : (n : ℕ) (x : List Bool) (cs : List (List Bool)) → ((z : List Bool) → List·Memᴰ z (x ∷ cs) → length z ≡ 2 ^ n) → length (strips n (x ∷ cs)) ≡ 3 * 2 ^ n
+unfolding strips settled
+strips-long n x cs f =
+    let a : length (settled (2 ^ n) (x ∷ cs)) ≡ 2 ^ n = length-tab (2 ^ n) (settledAt (x ∷ cs)) in
+    let b : length (map bit x) ≡ 2 ^ n = length-map x bit ∙ f x (List·Memᴰ·head refl) in
+    let c : length (last (x ∷ cs)) ≡ 2 ^ n = last-long (2 ^ n) (x ∷ cs) (omega arith) f in
+    simp length-append (omega (arith, a, b, c))
+
+verdict-long : (n g m : ℕ) (cs : List (List Bool)) (out : List ℕ) → ((z : List Bool) → List·Memᴰ z cs → length z ≡ 2 ^ n) → 3 * 2 ^ n ≤ length out
+    → length ((verdict n g m cs out) .bytes) ≡ length out
+unfolding verdict
+verdict-long n g m [] out f h = refl
+verdict-long n g m (x ∷ []) out f h = let l = strips-long n x [] f in simp (length-append, length-drop) (omega (arith, l))
+verdict-long n g m (x ∷ y ∷ cs) out f h = let l = strips-long n x (y ∷ cs) f in simp (length-append, length-drop) (omega (arith, l))
+
+pub keeps-length : (n : ℕ) (s : List ℕ) (r c : ℕ) (w out : List ℕ) → length ((decoding n s r c w out) .bytes) ≡ length out
+unfolding decoding decodeRefusals formRefusals sheetRefusals wordRefusals
+keeps-length n s r c w out =
+    by-rows (λ (a : Reply). length (a .bytes) ≡ length out) out (verdict n _ _ (candidates n (rules n s) r w) out) (decodeRefusals n s r c w out) (
+      λ _. refl,
+      λ _. (
+        λ _. refl,
+        λ _. (
+          λ _. refl,
+          λ _. (
+            λ _. refl,
+            λ _. (
+              λ _. refl,
+              λ _. (
+                λ _. refl,
+                λ e. (
+                  λ _. refl,
+                  λ _. (
+                    λ _. refl,
+                    λ _. verdict-long n _ _ (candidates n (rules n s) r w) out (candidate-long n (rules n s) r w) (ltb-false (length out) (3 * 2 ^ n) e),
+                  ),
+                ),
+              ),
+            ),
+          ),
+        ),
+      ),
+    )
+
+-- ---- the numbers
+
+pub numbers-five : (a : Answer) → length (numbersOf a) ≡ 5
+numbers-five Done = refl
+numbers-five (Unique g m) = refl
+numbers-five (Ambiguous g m d) = refl
+numbers-five (Inconsistent g m) = refl
+numbers-five BadShape = refl
+numbers-five (BadRecord i) = refl
+numbers-five BadCheck = refl
+numbers-five BadLength = refl
+numbers-five (BadSymbol i) = refl
+numbers-five ShortOutput = refl
+numbers-five BadCeiling = refl
+numbers-five (TooMany g) = refl
+
+open-few : (ks : List Rule) (o : List Bool) → ones (openFree ks o) ≤ length ks
+open-few [] o = omega arith
+open-few (k ∷ ks) [] = omega arith
+open-few (free ∷ ks) (true ∷ o) = omega (arith, open-few ks o)
+open-few (free ∷ ks) (false ∷ o) = omega (arith, open-few ks o)
+open-few (frozen c m ∷ ks) (b ∷ o) = omega (arith, open-few ks o)
+
+closed-few : (ks : List Rule) (o : List Bool) → ones (closedFrozen ks o) ≤ length ks
+closed-few [] o = omega arith
+closed-few (k ∷ ks) [] = omega arith
+closed-few (free ∷ ks) (b ∷ o) = omega (arith, closed-few ks o)
+closed-few (frozen c m ∷ ks) (true ∷ o) = omega (arith, closed-few ks o)
+closed-few (frozen c m ∷ ks) (false ∷ o) = omega (arith, closed-few ks o)
+
+module _ (n : ℕ) (h : n ≤ largestN) where
+  low : 2 ^ n ≤ 128
+  unfolding largestN
+  low = omega (arith, pow-mono h)
+
+  unknowns-few : (s w : List ℕ) → unknowns n (rules n s) w < 256
+  unfolding unknowns
+  unknowns-few s w = omega (arith, open-few (rules n s) (openAll n w), length-rules n s, low)
+
+  equations-few : (s w : List ℕ) (r : ℕ) → (r ≡ 0) ⊎ ((r ≡ 6) ⊎ (r ≡ 11)) → equations n (rules n s) r w < 256
+  unfolding equations
+  equations-few s w r c = go c
+    where
+      l : ones (closedFrozen (rules n s) (openAll n w)) ≤ length (rules n s)
+      l = closed-few (rules n s) (openAll n w)
+
+      go : (r ≡ 0) ⊎ ((r ≡ 6) ⊎ (r ≡ 11)) → ones (closedFrozen (rules n s) (openAll n w)) + r < 256
+      go (inl e) = omega (arith, l, length-rules n s, low)
+      go (inr (inl e)) = omega (arith, l, length-rules n s, low)
+      go (inr (inr e)) = omega (arith, l, length-rules n s, low)
+
+  verdict-small : (s w out : List ℕ) (r : ℕ) → Good n s r → (cs : List (List Bool)) → (cs ≡ candidates n (rules n s) r w)
+      → Small ((verdict n (unknowns n (rules n s) w) (equations n (rules n s) r w) cs out) .answer)
+  unfolding verdict small
+  verdict-small s w out r ok [] e = rw (lt-ltb _ 256 (unknowns-few s w), lt-ltb _ 256 (equations-few s w r (ok .check)))
+  verdict-small s w out r ok (x ∷ []) e = rw (lt-ltb _ 256 (unknowns-few s w), lt-ltb _ 256 (equations-few s w r (ok .check)))
+  verdict-small s w out r ok (x ∷ y ∷ cs) e =
+      let l : length (candidates n (rules n s) r w) ≡ 2 ^ dimension (candidates n (rules n s) r w) = dimension-is n (rules n s) r w (omega (arith, ap length (sym e))) in
+      let d : dimension (x ∷ y ∷ cs) ≤ unknowns n (rules n s) w = rw e (d-le-g n (rules n s) r w _ (length-rules n s) (ok .ordered) l) in
+      rw (lt-ltb _ 256 (unknowns-few s w), lt-ltb _ 256 (equations-few s w r (ok .check)), lt-ltb (dimension (x ∷ y ∷ cs)) 256 (omega (arith, d, unknowns-few s w)))
+
+  pub fits-a-byte : (s : List ℕ) (r c : ℕ) (w out : List ℕ) → Small ((decoding n s r c w out) .answer)
+  unfolding decoding decodeRefusals formRefusals sheetRefusals wordRefusals small
+  fits-a-byte s r c w out =
+      by-rows (λ (t : Reply). Small (t .answer)) out (verdict n (unknowns n (rules n s) w) (equations n (rules n s) r w) (candidates n (rules n s) r w) out) (decodeRefusals n s r c w out) (
+        λ _. refl,
+        λ a. (
+          λ e. rw (lt-ltb (badRecord n s) 256 (omega (arith, ltb-true (badRecord n s) (2 ^ n) e, low))),
+          λ b. (
+            λ _. refl,
+            λ d. (
+              λ _. refl,
+              λ l. (
+                λ e. rw (lt-ltb (firstPlace (ltb 2) w) 256 (omega (arith, ltb-true (firstPlace (ltb 2) w) (length w) e, eqb-true (length w) (2 ^ n) (not-false _ l), low))),
+                λ _. (
+                  λ _. refl,
+                  λ _. (
+                    λ _. refl,
+                    λ _. (
+                      λ _. rw (lt-ltb (unknowns n (rules n s) w) 256 (unknowns-few s w)),
+                      λ _. verdict-small s w out r (good n s r (rw (a, b, d))) (candidates n (rules n s) r w) refl,
+                    ),
+                  ),
+                ),
+              ),
+            ),
+          ),
+        ),
+      )

@@ -1,0 +1,64 @@
+use mathlib.Core.Path.{_≡_, ap, _∙_}
+use mathlib.Core.List.{List, _++_}
+use Prim.Native.Nat.{ℕ}
+use lib.ListN.{length}
+use Rattle.meaning.specs.Stream.{answerBytes}
+use Rattle.meaning.specs.Limits.{stripWidth}
+use Rattle.stream.proofs.Laying.{header-long, put-whole, put-room}
+use borrow.Author.Needs.{needs}
+use native.Mathlib.Omega.{arith}
+use Rattle.stream.proofs.record.put.Statement.{statement}
+use Rattle.stream.proofs.record.put.Tie as tie
+
+header-eight : (c : tie.After-head) → length (c .head .result) ≡ 8
+header-eight c = ap length (c .head .ensures) ∙ header-long (c .before .before .before .args .a)
+
+head-requires : tie.Need-head-requires
+head-requires c κs = c .before .before .pre .0
+
+slice-aggregate-copy : tie.Need-slice-aggregate-copy
+slice-aggregate-copy c = omega (arith, header-eight (c .before))
+
+copy-requires : tie.Need-copy-requires
+unfolding answerBytes stripWidth
+copy-requires c κs = omega (arith, header-eight (c .before .before), c .before .before .before .before .before .pre .2)
+
+sub-copy : tie.Need-sub-copy
+unfolding answerBytes stripWidth
+sub-copy c = omega (arith, c .before .before .before .before .before .before .before .before .pre .2)
+
+part-copy-start : tie.Need-part-copy-start
+unfolding answerBytes stripWidth
+part-copy-start c = omega (arith, c .before .before .before .before .before .before .before .before .pre .2)
+
+part-copy-end : tie.Need-part-copy-end
+part-copy-end c = search needs
+
+copy-requires-2 : tie.Need-copy-requires-2
+unfolding answerBytes stripWidth
+copy-requires-2 c κs = put-room (c .before .before .before .before .before .before .before .before .before .args .strips .now) (c .before .before .before .copy .last .1 .0) 8 (omega (arith, c .before .before .before .before .before .before .before .before .before .pre .1, c .before .before .before .before .before .before .before .before .before .pre .2))
+
+same-length : tie.Need-same-length
+same-length c = search needs
+
+returns : tie.Need-returns
+unfolding answerBytes stripWidth
+returns c =
+    let start = c .before .before .before .before .before .before .before .before .before .before .before .before in
+    let copy = c .before .before .before .before .before .before in
+    put-whole (c .before .before .before .before .before .before .before .before .before .head .result) (start .args .strips .now) (start .args .out .now) _ 8 (header-eight (c .before .before .before .before .before .before .before .before .before)) (omega (arith, start .pre .1, start .pre .2)) _ (copy .copy .ensures .1) (c .before .before .copy2 .ensures .1)
+    ∙ ap (λ (t : List ℕ). t ++ start .args .strips .now) (c .before .before .before .before .before .before .before .before .before .head .ensures)
+
+pub put-spec : {M : Type 1} → statement M
+put-spec =
+    tie.close
+    (tie.spec
+    head-requires
+    slice-aggregate-copy
+    copy-requires
+    sub-copy
+    part-copy-start
+    part-copy-end
+    copy-requires-2
+    same-length
+    returns)

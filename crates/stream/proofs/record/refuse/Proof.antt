@@ -1,0 +1,29 @@
+use mathlib.Core.Path.{ap, _∙_}
+use mathlib.Core.List.{List, _++_}
+use Prim.Native.Nat.{ℕ, _*_}
+use lib.ListN.{length, length-replicate}
+use Rattle.meaning.specs.Stream.{header, refusedRecord}
+use Rattle.meaning.specs.Limits.{stripWidth}
+use borrow.Author.Needs.{needs}
+use Rattle.stream.proofs.record.refuse.Statement.{statement}
+use Rattle.stream.proofs.record.refuse.Tie as tie
+
+blank-requires : tie.Need-blank-requires
+blank-requires c κs = search needs
+
+slice-aggregate-put : tie.Need-slice-aggregate-put
+slice-aggregate-put c = search needs
+
+put-requires : tie.Need-put-requires
+put-requires c κs = (c .before .before .before .before .pre .0, ap length (c .before .before .blank .ensures) ∙ length-replicate (3 * stripWidth) 255, c .before .before .before .before .pre .1)
+
+same-length : tie.Need-same-length
+same-length c = search needs
+
+returns : tie.Need-returns
+unfolding refusedRecord
+returns c = c .before .before .put .ensures ∙ ap (λ (t : List ℕ). header (c .before .before .before .before .before .before .before .args .a) ++ t) (c .before .before .before .before .before .blank .ensures)
+
+pub refuse-spec : {M : Type 1} → statement M
+refuse-spec =
+    tie.close (tie.spec blank-requires slice-aggregate-put put-requires same-length returns)

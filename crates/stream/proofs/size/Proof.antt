@@ -1,0 +1,58 @@
+use mathlib.Core.Path.{sym, ap, _∙_}
+use Prim.Native.Nat.{ℕ, _*_, _≤_, _-_}
+use Rattle.meaning.specs.Limits.{largestN, recordBytes, maskBytes}
+use Rattle.stream.proofs.Counting.{Left, size-start, size-found, size-next, size-none, size-low}
+use borrow.Author.Needs.{needs}
+use native.Mathlib.Omega.{arith}
+use Rattle.stream.proofs.size.Statement.{statement}
+use Rattle.stream.proofs.size.Tie as tie
+
+abbrev Inv-loop : tie.InvT-loop
+Inv-loop sheet n₀ n = (n ≤ 8) × Left sheet n
+
+abbrev μ-loop : tie.MeasureT-loop
+μ-loop sheet n₀ n = 8 - n
+
+loop-holds : tie.Need-loop-holds Inv-loop μ-loop
+loop-holds c = (omega arith, size-start (c .before .args .sheet .now))
+
+size-of-requires : tie.Need-size-of-requires Inv-loop μ-loop
+unfolding largestN
+size-of-requires c κs = omega arith
+
+mul-if1 : tie.Need-mul-if1 Inv-loop μ-loop
+unfolding largestN
+mul-if1 c = omega (arith, c .size-of .ensures, size-low _ (c .before .loop-test .taken))
+
+returns : tie.Need-returns Inv-loop μ-loop
+unfolding largestN recordBytes maskBytes
+returns c = size-found _ _ (c .before .before .before .loop .inv .1) (c .before .before .loop-test .taken) (c .if1 .taken ∙ ap (λ (k : ℕ). k * 20) (c .before .size-of .ensures))
+
+add-n : tie.Need-add-n Inv-loop μ-loop
+add-n c = search needs
+
+loop-less : tie.Need-loop-less Inv-loop μ-loop
+loop-less c = search needs
+
+loop-again : tie.Need-loop-again Inv-loop μ-loop
+unfolding largestN recordBytes maskBytes
+loop-again c = (omega arith, size-next _ _ (c .before .before .before .loop .inv .1) (c .before .before .loop-test .taken) (λ e. c .if1 .left (e ∙ ap (λ (k : ℕ). k * 20) (sym (c .before .size-of .ensures)))))
+
+returns-2 : tie.Need-returns-2 Inv-loop μ-loop
+unfolding largestN
+returns-2 c = size-none _ _ (c .before .loop .inv .1) (c .loop-test .left)
+
+pub size-spec : {M : Type 1} → statement M
+size-spec =
+    tie.close
+    (tie.spec
+    Inv-loop
+    μ-loop
+    loop-holds
+    size-of-requires
+    mul-if1
+    returns
+    add-n
+    loop-less
+    loop-again
+    returns-2)

@@ -1,0 +1,116 @@
+use mathlib.Core.Path.{_≡_, refl, ap, _∙_}
+use mathlib.Core.List.{List, _++_, flatten}
+use Prim.Native.Nat.{ℕ, _+_, _*_, _-_, _≤_}
+use lib.ListN.{length, drop, length-take, length-drop}
+use borrow.Rule.Slice.PartMut.{putMid}
+use Rattle.bits.specs.Vectors.{tab}
+use Rattle.meaning.specs.Limits.{stripWidth}
+use Rattle.meaning.specs.Stream.{answerBytes, answerRecord}
+use Rattle.stream.proofs.Counting.{begins}
+use Rattle.stream.proofs.Streaming.{recordAt, record-long, word-is, put-record}
+use borrow.Author.Needs.{needs}
+use native.Mathlib.Omega.{arith}
+use Rattle.stream.proofs.words.Statement.{statement}
+use Rattle.stream.proofs.words.Tie as tie
+
+abbrev Inv-loop : tie.InvT-loop
+Inv-loop n sheet r ceiling input k out₀ size i₀ out i = (i ≤ k) × (length out ≡ length out₀) × (out ≡ flatten (tab i (recordAt n sheet r ceiling input)) ++ drop (i * 392) out₀)
+
+abbrev μ-loop : tie.MeasureT-loop
+μ-loop n sheet r ceiling input k out₀ size i₀ out i = k - i
+
+size-of-requires : tie.Need-size-of-requires Inv-loop μ-loop
+size-of-requires c κs = c .before .before .before .pre .0
+
+loop-holds : tie.Need-loop-holds Inv-loop μ-loop
+unfolding flatten
+loop-holds c = (omega arith, refl, refl)
+
+mul-at : tie.Need-mul-at Inv-loop μ-loop
+mul-at c = omega (arith, begins (length (c .before .before .before .before .before .before .args .input .now)) (c .before .before .size-of .result) (c .before .before .before .before .before .before .args .n) (c .before .loop .i) (c .before .before .before .before .before .before .args .k) (c .before .before .size-of .ensures) (c .before .before .before .before .before .before .pre .1) (c .loop-test .taken))
+
+end-of-requires : tie.Need-end-of-requires Inv-loop μ-loop
+end-of-requires c κs = omega (arith, begins (length (c .before .before .before .before .before .before .args .input .now)) (c .before .before .size-of .result) (c .before .before .before .before .before .before .args .n) (c .before .loop .i) (c .before .before .before .before .before .before .args .k) (c .before .before .size-of .ensures) (c .before .before .before .before .before .before .pre .1) (c .loop-test .taken))
+
+mul-to : tie.Need-mul-to Inv-loop μ-loop
+unfolding answerBytes stripWidth
+mul-to c = omega (arith, c .before .loop-test .taken, c .before .before .before .before .before .before .before .pre .2)
+
+sub-answer : tie.Need-sub-answer Inv-loop μ-loop
+sub-answer c = search needs
+
+part-answer-start : tie.Need-part-answer-start Inv-loop μ-loop
+part-answer-start c = search needs
+
+part-answer-end : tie.Need-part-answer-end Inv-loop μ-loop
+part-answer-end c = search needs
+
+add-answer : tie.Need-add-answer Inv-loop μ-loop
+unfolding answerBytes stripWidth
+add-answer c = omega (arith, c .before .before .loop-test .taken, c .before .before .before .before .before .before .before .before .pre .2)
+
+sub-answer-2 : tie.Need-sub-answer-2 Inv-loop μ-loop
+sub-answer-2 c = omega arith
+
+part-answer-start-2 : tie.Need-part-answer-start-2 Inv-loop μ-loop
+part-answer-start-2 c = omega arith
+
+part-answer-end-2 : tie.Need-part-answer-end-2 Inv-loop μ-loop
+unfolding answerBytes stripWidth
+part-answer-end-2 c = omega (arith, c .before .before .loop-test .taken, c .before .before .before .loop .inv .1, c .before .before .before .before .before .before .before .before .pre .2)
+
+answer-requires : tie.Need-answer-requires Inv-loop μ-loop
+unfolding answerBytes stripWidth
+answer-requires c κs = (c .before .before .before .before .before .before .before .before .before .pre .0, simp (length-take, length-drop) (omega (arith, c .before .before .before .loop-test .taken, c .before .before .before .before .loop .inv .1, c .before .before .before .before .before .before .before .before .before .pre .2)))
+
+add-i : tie.Need-add-i Inv-loop μ-loop
+add-i c = search needs
+
+loop-less : tie.Need-loop-less Inv-loop μ-loop
+loop-less c = search needs
+
+loop-again : tie.Need-loop-again Inv-loop μ-loop
+unfolding answerBytes stripWidth
+loop-again c =
+    let start = c .before .before .before .before .before .before .before .before .before .before .before .before in
+    let A = start .args in
+    let l = c .before .before .before .before .before .before .before .loop in
+    let x : c .before .before .answer .last .1 .1 .1 .1 .1 .0 ≡ recordAt (A .n) (A .sheet .now) (A .r) (A .ceiling) (A .input .now) (l .i) = c .before .before .answer .ensures
+    ∙ ap (answerRecord (A .n) (A .sheet .now) (A .r) (A .ceiling)) (word-is (A .n) (A .input .now) (l .i) _ _ (c .before .before .before .before .before .before .before .before .size-of .ensures) (c .before .before .before .before .before .end-of .ensures .2)) in (
+      omega (arith, c .before .before .before .before .before .before .loop-test .taken),
+      c .before .out .given .1 ∙ l .inv .1,
+      ap (λ (o : List ℕ). putMid (l .i * 392) (l .i * 392 + 392 - l .i * 392) o (c .before .before .answer .last .1 .1 .1 .1 .1 .0)) (l .inv .2)
+          ∙ put-record 392 (recordAt (A .n) (A .sheet .now) (A .r) (A .ceiling) (A .input .now)) (λ i. record-long (A .n) (A .sheet .now) (A .r) (A .ceiling) _ (start .pre .0)) (A .out .now) (l .i) _ x,
+    )
+
+same-length : tie.Need-same-length Inv-loop μ-loop
+same-length c = search needs
+
+returns : tie.Need-returns Inv-loop μ-loop
+unfolding answerBytes stripWidth
+returns c = let l = c .before .loop in let q : l .i ≡ c .before .before .before .before .before .before .args .k = omega (arith, c .loop-test .left, l .inv .0) in rw (← q) (l .inv .2)
+
+pub words-spec : {M : Type 1} → statement M
+words-spec =
+    tie.close
+    (tie.spec
+    Inv-loop
+    μ-loop
+    size-of-requires
+    loop-holds
+    mul-at
+    end-of-requires
+    mul-to
+    sub-answer
+    part-answer-start
+    part-answer-end
+    add-answer
+    sub-answer-2
+    part-answer-start-2
+    part-answer-end-2
+    answer-requires
+    add-i
+    loop-less
+    loop-again
+    same-length
+    returns)

@@ -1,0 +1,2 @@
+-- Laying: a record, in the parts that the code writes.
+pub mod Laying

@@ -1,0 +1,124 @@
+// The answers to a whole input: one record of 392 bytes for each word, in its place. Every function here is total, and over
+// values: the bytes of sheet.bin, of choice.bin (r, then the ceiling) and of the words end to end.
+ghost use mathlib.Core.Path.{_≡_};
+ghost use mathlib.Core.List.{_++_, flatten};
+ghost use Prim.Native.Nat.{ℕ, min, _*_, _-_, _^_, _≤_};
+ghost use lib.ListN.{length, drop};
+ghost use Rattle.bits.specs.Vectors.{tab};
+ghost use Rattle.meaning.specs.Limits.{largestN};
+ghost use Rattle.meaning.specs.Answers.{leaving};
+ghost use Rattle.meaning.specs.Stream.{answerBytes, answerRecord, sizeOf, roundedUp, wordAt, records, streaming};
+
+mod limits;
+mod record;
+
+use meaning::Answer;
+
+// The n of a sheet of N = 2 to the n records, from its length; 8 where no n up to 7 has such a sheet.
+pub fn size(sheet: &[u8]) -> usize
+    ensures { λ r. ⌜ r ≡ sizeOf (now (sheet .entry)) ⌝ }
+{
+    let mut n = 0;
+    while n <= limits::LARGEST_N {
+        if sheet.len() == limits::size_of(n) * limits::RECORD {
+            return n;
+        }
+        n += 1;
+    }
+    n
+}
+
+// a divided by b, rounded up.
+fn rounded_up(a: usize, b: usize) -> usize
+    requires { ⌜ 1 ≤ b ⌝ }
+    ensures { λ r. ⌜ r ≡ roundedUp a b ⌝ }
+{
+    if a == 0 { 0 } else { (a - 1) / b + 1 }
+}
+
+// The number of records that an input is answered with: one for each word, the cut-off last one too; one alone where the
+// sheet or the choice has a wrong length.
+pub fn records(sheet: &[u8], choice: &[u8], input: &[u8]) -> usize
+    ensures { λ r. ⌜ r ≡ length (records (now (sheet .entry)) (now (choice .entry)) (now (input .entry))) ⌝ }
+{
+    let n = size(sheet);
+    if limits::LARGEST_N < n {
+        return 1;
+    }
+    if choice.len() != 2 {
+        return 1;
+    }
+    rounded_up(input.len(), limits::size_of(n))
+}
+
+// Where word i ends.
+fn end_of(i: usize, size: usize, len: usize) -> usize
+    requires { ⌜ i * size ≤ len ⌝ }
+    ensures { λ r. ⌜ (i * size ≤ r) × (r ≤ len) × (r - i * size ≡ min size (len - i * size)) ⌝ }
+{
+    let at = i * size;
+    if len - at < size { len } else { at + size }
+}
+
+// Writes the records of k words, one after the other.
+fn words(n: usize, sheet: &[u8], r: usize, ceiling: usize, input: &[u8], k: usize, out: &mut [u8])
+    requires { ⌜ (n ≤ largestN) × (k ≡ roundedUp (length (now input)) (2 ^ n)) × (k * answerBytes ≤ length (now out)) ⌝ }
+    ensures { λ _. ⌜ now (out .exit) ≡ flatten (tab k (λ (i : ℕ). answerRecord n (now (sheet .entry)) r ceiling (wordAt n (now (input .entry)) i))) ++ drop (k * answerBytes) (now (out .entry)) ⌝ }
+{
+    let size = limits::size_of(n);
+    let mut i = 0;
+    while i < k {
+        let at = i * size;
+        let end = end_of(i, size, input.len());
+        let to = i * limits::ANSWER;
+        record::answer(
+            n,
+            sheet,
+            r,
+            ceiling,
+            &input[at..end],
+            &mut out[to..to + limits::ANSWER],
+        );
+        i += 1;
+    }
+}
+
+// Writes all records, where there is room for them.
+fn write(sheet: &[u8], choice: &[u8], input: &[u8], k: usize, out: &mut [u8])
+    requires { ⌜ (k ≡ length (records (now sheet) (now choice) (now input))) × (k * answerBytes ≤ length (now out)) ⌝ }
+    ensures { λ _. ⌜ now (out .exit) ≡ flatten (records (now (sheet .entry)) (now (choice .entry)) (now (input .entry))) ++ drop (k * answerBytes) (now (out .entry)) ⌝ }
+{
+    let n = size(sheet);
+    if limits::LARGEST_N < n {
+        record::refuse(Answer::BadShape, &mut out[0..limits::ANSWER]);
+    } else if choice.len() != 2 {
+        record::refuse(Answer::BadCheck, &mut out[0..limits::ANSWER]);
+    } else {
+        words(
+            n,
+            sheet,
+            choice[0] as usize,
+            choice[1] as usize,
+            input,
+            k,
+            out,
+        );
+    }
+}
+
+// Answers a whole input: word k is what stands from byte kN on, N symbols or as many as are left, and its record stands at
+// byte 392k of the output: code, place, g, m, d, three zeros, then three strips of 128 bytes, the places past N filled with
+// 255. Where decoding leaves its output untouched, all of the strips is 255. A cut-off last word has its record too.
+// Where the sheet is not 20N bytes long there is one record, of code 11; else, where the choice is not two bytes, one of 13.
+// Answers Done, later bytes as found; or ShortOutput (16), before all else, where the output is too short for the records,
+// and leaves it as found.
+pub fn answer(sheet: &[u8], choice: &[u8], input: &[u8], out: &mut [u8]) -> Answer
+    ensures { λ a. ⌜ leaving (now (out .exit)) a ≡ streaming (now (sheet .entry)) (now (choice .entry)) (now (input .entry)) (now (out .entry)) ⌝ }
+{
+    let k = records(sheet, choice, input);
+    if out.len() / limits::ANSWER < k {
+        return Answer::ShortOutput;
+    }
+    write(sheet, choice, input, k, out);
+    Answer::Done
+}
