@@ -160,7 +160,7 @@ fn payload_read(
 
 /// One answer record of the stream: the numbers, then three strips padded with 255.
 /// `strips` holds the output of decoding, or nothing where it was left untouched.
-fn answer_record(answer: Answer, strips: &[u8], length: usize) -> Vec<u8> {
+pub fn answer_record(answer: Answer, strips: &[u8], length: usize) -> Vec<u8> {
     let mut record = vec![0; HEADER_BYTES];
     for (byte, number) in record.iter_mut().zip(answer.numbers()) {
         *byte = u8::try_from(number).expect("a number of one byte");
@@ -173,20 +173,27 @@ fn answer_record(answer: Answer, strips: &[u8], length: usize) -> Vec<u8> {
     record
 }
 
+/// n, r and the ceiling of a stream, or the code of the one record that answers it unread.
+pub fn stream_numbers(sheet: &[u8], choice: &[u8]) -> Result<(usize, usize, usize), u16> {
+    let allowed = (0..=LARGEST_EXPONENT).find(|n| sheet.len() == RECORD_BYTES << n);
+    let n = allowed.ok_or(11u16)?;
+    match choice {
+        &[r, ceiling] => Ok((n, r.into(), ceiling.into())),
+        _ => Err(13),
+    }
+}
+
 /// The records that a stream of words is answered with.
-fn answer_records(sheet: &[u8], choice: &[u8], input: &[u8]) -> Vec<u8> {
-    let alone = |code| answer_record(Answer::code(code), &[], 1);
-    let Some(n) = (0..=LARGEST_EXPONENT).find(|n| sheet.len() == RECORD_BYTES << n) else {
-        return alone(11);
-    };
-    let &[r, ceiling] = choice else {
-        return alone(13);
+pub fn answer_records(sheet: &[u8], choice: &[u8], input: &[u8]) -> Vec<u8> {
+    let (n, r, ceiling) = match stream_numbers(sheet, choice) {
+        Ok(numbers) => numbers,
+        Err(code) => return answer_record(Answer::code(code), &[], 1),
     };
     let length = 1 << n;
     let mut records = Vec::new();
     for word in input.chunks(length) {
         let mut strips = vec![0; 3 * length];
-        let answer = decode(n, sheet, r.into(), ceiling.into(), word, &mut strips);
+        let answer = decode(n, sheet, r, ceiling, word, &mut strips);
         let written = if answer.code <= 1 { &strips[..] } else { &[] };
         records.extend(answer_record(answer, written, length));
     }

@@ -14,4 +14,5 @@ pub mod protocol;
 pub mod requests;
 pub mod rng;
 pub mod sheet;
+pub mod show;
 pub mod system;
