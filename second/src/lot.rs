@@ -1,0 +1,301 @@
+// The sample lot: a polar code over 128 cartridges with dynamic frozen bits, a choice, and the
+// words of a short test log: one symbol of every record stands on each cartridge, so that a lost
+// cartridge is the same place in every record. The folder explains itself by its README.
+
+use crate::calls::{answer_records, ANSWER_BYTES};
+use crate::code::ERASED;
+use crate::files::File;
+use crate::make::bytes;
+use crate::rng::Rng;
+use crate::sheet::{Record, Sheet};
+use crate::show::{refusal, show, verdict};
+use crate::words::Codewords;
+
+/// N is 2 to this: as many symbols as cartridges.
+const EXPONENT: usize = 7;
+const CARTRIDGES: usize = 1 << EXPONENT;
+
+/// K, the number of free positions.
+const FREE: usize = 64;
+
+const CHECK: usize = 11;
+const CEILING: usize = 20;
+
+/// How many cartridges the vault lost.
+const LOST: usize = 56;
+
+/// What became of a record, besides its losses.
+#[derive(Clone, Copy, Debug, PartialEq, Eq)]
+enum Flaw {
+    None,
+    /// A symbol that was read is turned over.
+    Turned,
+    /// A symbol that was read holds this, which is no symbol.
+    Strange(u8),
+    /// The word ends after so many symbols.
+    CutOff(usize),
+}
+
+/// For each record, how many cartridges are lost to it, in the lot's order, and its flaw.
+const DAMAGE: [(usize, Flaw); 25] = [
+    (0, Flaw::None),
+    (0, Flaw::None),
+    (1, Flaw::None),
+    (9, Flaw::None),
+    (LOST, Flaw::None),
+    (LOST, Flaw::None),
+    (LOST, Flaw::None),
+    (LOST, Flaw::None),
+    (LOST, Flaw::None),
+    (LOST, Flaw::None),
+    (LOST, Flaw::None),
+    (LOST, Flaw::None),
+    (63, Flaw::None),
+    (72, Flaw::None),
+    (73, Flaw::None),
+    (81, Flaw::None),
+    (84, Flaw::None),
+    (85, Flaw::None),
+    (CARTRIDGES, Flaw::None),
+    (0, Flaw::Turned),
+    (LOST, Flaw::Turned),
+    (LOST, Flaw::Strange(7)),
+    (LOST, Flaw::None),
+    (LOST, Flaw::None),
+    (LOST, Flaw::CutOff(50)),
+];
+
+/// A sheet, a choice and words as the programs read them.
+pub struct Lot {
+    pub sheet: Vec<u8>,
+    pub choice: Vec<u8>,
+    pub words: Vec<Vec<u8>>,
+    /// The cartridges in the order in which they are lost.
+    order: Vec<usize>,
+}
+
+/// How likely u_i is to stay unknown when each symbol is lost with chance z and all before u_i is
+/// known, for a block of 2^n: the left half of a block has the worse of the two channels.
+fn unknown(z: f64, n: usize) -> Vec<f64> {
+    if n == 0 {
+        return vec![z];
+    }
+    [unknown(2.0 * z - z * z, n - 1), unknown(z * z, n - 1)].concat()
+}
+
+/// For each position, whether it is one of the K that are best where half of the symbols are lost.
+fn free_positions() -> Vec<bool> {
+    let unknown = unknown(0.5, EXPONENT);
+    let mut best: Vec<usize> = (0..CARTRIDGES).collect();
+    best.sort_by(|&i, &j| unknown[i].total_cmp(&unknown[j]));
+    (0..CARTRIDGES).map(|i| best[..FREE].contains(&i)).collect()
+}
+
+/// A frozen record: plain while no free position stands before it, and then one time in five;
+/// else it names one free position and up to three others of any kind. One constant in four is 1.
+fn frozen_record(rng: &mut Rng, before: &[bool]) -> Record {
+    let free: Vec<usize> = (0..before.len()).filter(|&j| before[j]).collect();
+    let mut named = Vec::new();
+    if !free.is_empty() && rng.below(5) > 0 {
+        named.push(rng.pick(&free));
+        for _ in 0..rng.below(4) {
+            named.push(rng.below(before.len()));
+        }
+    }
+    named.sort();
+    named.dedup();
+    Record {
+        frozen: true,
+        constant: rng.below(4) == 0,
+        named,
+    }
+}
+
+fn sheet(rng: &mut Rng) -> Vec<u8> {
+    let free = free_positions();
+    let records: Vec<Record> = (0..CARTRIDGES)
+        .map(|i| match free[i] {
+            true => Record::default(),
+            false => frozen_record(rng, &free[..i]),
+        })
+        .collect();
+    bytes(&records)
+}
+
+/// The payload of a record of the log: six characters, as in 07FAIL, and a bin in the bits left,
+/// each with its highest bit first.
+fn payload(rng: &mut Rng, number: usize, bits: usize) -> Vec<u8> {
+    let passed = rng.below(4) > 0;
+    let text = format!("{number:02}{}", if passed { "PASS" } else { "FAIL" });
+    let bin = if passed { 1 } else { rng.within(2, 31) as u8 };
+    let mut payload: Vec<u8> = text.bytes().flat_map(|byte| high_first(byte, 8)).collect();
+    payload.extend(high_first(bin, bits - payload.len()));
+    payload
+}
+
+/// The lowest bits of a byte, so many of them, the highest first.
+fn high_first(byte: u8, count: usize) -> Vec<u8> {
+    (0..count).rev().map(|bit| byte >> bit & 1).collect()
+}
+
+impl Lot {
+    pub fn make() -> Lot {
+        let mut rng = Rng::new(500);
+        let sheet = sheet(&mut rng);
+        let mut lot = Lot {
+            order: rng.order(CARTRIDGES),
+            choice: vec![CHECK as u8, CEILING as u8],
+            words: Vec::new(),
+            sheet,
+        };
+        let codewords = lot.codewords();
+        for number in 1..=DAMAGE.len() {
+            let payload = payload(&mut rng, number, codewords.bits());
+            let word = lot.damaged(number, codewords.of(&payload));
+            lot.words.push(word);
+        }
+        lot
+    }
+
+    pub fn codewords(&self) -> Codewords {
+        Codewords::new(EXPONENT, &self.sheet, CHECK).expect("a good sheet")
+    }
+
+    /// The place of a record's flaw: no two the same, and none that is lost.
+    fn place(&self, number: usize) -> usize {
+        self.order[CARTRIDGES - number]
+    }
+
+    /// What is left of the word of a record, numbered from 1.
+    fn damaged(&self, number: usize, mut word: Vec<u8>) -> Vec<u8> {
+        let (lost, flaw) = DAMAGE[number - 1];
+        for &j in &self.order[..lost] {
+            word[j] = ERASED;
+        }
+        match flaw {
+            Flaw::None => {}
+            Flaw::Turned => word[self.place(number)] ^= 1,
+            Flaw::Strange(value) => word[self.place(number)] = value,
+            Flaw::CutOff(symbols) => word.truncate(symbols),
+        }
+        word
+    }
+
+    /// The answer records of all words.
+    pub fn answers(&self) -> Vec<u8> {
+        answer_records(&self.sheet, &self.choice, &self.words.concat())
+    }
+
+    /// The files of the lot's folder.
+    pub fn files(&self) -> Vec<File> {
+        let file = |name, bytes| File { name, bytes };
+        vec![
+            file("sheet.bin", self.sheet.clone()),
+            file("choice.bin", self.choice.clone()),
+            file("words.bin", self.words.concat()),
+            file("README.md", self.readme().into_bytes()),
+        ]
+    }
+
+    /// What was done to a record, in words.
+    fn done(&self, number: usize) -> String {
+        let (lost, flaw) = DAMAGE[number - 1];
+        let losses = match lost {
+            0 => "nothing lost".to_string(),
+            1 => "one cartridge lost".to_string(),
+            LOST => format!("the {LOST} cartridges lost"),
+            CARTRIDGES => "every cartridge lost".to_string(),
+            _ if lost < LOST => format!("{lost} cartridges lost"),
+            _ => format!("the {LOST} cartridges and {} more lost", lost - LOST),
+        };
+        let place = self.place(number);
+        match flaw {
+            Flaw::None => losses,
+            Flaw::Turned => format!("{losses}, symbol {place} turned over"),
+            Flaw::Strange(value) => format!("{losses}, symbol {place} made a {value}"),
+            Flaw::CutOff(symbols) => format!("{losses}, cut off after {symbols} symbols"),
+        }
+    }
+
+    /// The lost cartridges, rising.
+    fn lost(&self) -> String {
+        let mut lost = self.order[..LOST].to_vec();
+        lost.sort();
+        let lost: Vec<String> = lost.iter().map(usize::to_string).collect();
+        lost.join(", ")
+    }
+
+    /// What kinds of record the sheet holds, in words.
+    fn kinds(&self) -> String {
+        let sheet = Sheet::read(EXPONENT, &self.sheet, CHECK).expect("a good sheet");
+        let frozen: Vec<&Record> = sheet.records.iter().filter(|r| r.frozen).collect();
+        let plain = frozen.iter().filter(|r| r.named.is_empty()).count();
+        let ones = frozen.iter().filter(|r| r.constant).count();
+        format!(
+            "{} positions free, {plain} plain frozen, {} frozen by earlier positions; \
+             {ones} of the frozen have the constant 1",
+            sheet.k(),
+            frozen.len() - plain,
+        )
+    }
+
+    fn readme(&self) -> String {
+        let answers = self.answers();
+        let rows: String = (answers.chunks(ANSWER_BYTES).enumerate())
+            .map(|(at, record)| row(at + 1, &self.done(at + 1), record))
+            .collect();
+        let shown = show(&answers);
+        let (_, counts) = shown.split_once("\n\n").expect("an empty line");
+        let counts: String = counts.lines().map(|line| format!("    {line}\n")).collect();
+        format!(
+            "# A sample lot
+
+A test log of {records} records on {CARTRIDGES} cartridges. Symbol j of every record stands on \
+cartridge j (all counted from 0), so a lost cartridge is the same place in every record it is lost to.
+
+- `sheet.bin`: the code sheet, {kinds}.
+- `choice.bin`: check length {CHECK}, ceiling {CEILING}.
+- `words.bin`: the words as they were read, {CARTRIDGES} bytes each: 0, 1, or 2 where the cartridge is lost.
+
+The vault lost {LOST} cartridges: {lost}. The first records were read before that, and some had further losses.
+
+## What is to be seen
+
+`recover` answers `words.bin`, and `show` prints the answers. The second program says the same:
+
+    second stream . < words.bin | second show
+
+g: unknowns. m: equations. d: 2 to the d contents agree. What is left empty here `show` does not print either.
+
+| record | what was done to it | `show` says | g | m | d |
+|---|---|---|---|---|---|
+{rows}
+and at the end
+
+{counts}
+These files are made by `second lot` and held by `second compare-lot`.
+",
+            records = self.words.len(),
+            kinds = self.kinds(),
+            lost = self.lost(),
+        )
+    }
+}
+
+/// A row of the table: the verdict with its counts, or the refusal with its reason.
+fn row(number: usize, done: &str, record: &[u8]) -> String {
+    let [code, place, g, m, d] = [0, 1, 2, 3, 4].map(|at| record[at]);
+    let verdict = verdict(code);
+    let (said, counts) = match code {
+        0..=2 => (verdict, format!("{g} | {m} | {d}")),
+        18 => (
+            format!("{verdict}: {}", refusal(code, place)),
+            format!("{g} |  | "),
+        ),
+        _ => (
+            format!("{verdict}: {}", refusal(code, place)),
+            " |  | ".to_string(),
+        ),
+    };
+    format!("| {number} | {done} | {said} | {counts} |\n")
+}
