@@ -12,6 +12,7 @@ pub mod limits;
 pub mod lot;
 pub mod make;
 pub mod open;
+pub mod programs;
 pub mod protocol;
 pub mod requests;
 pub mod rng;

@@ -1,4 +1,4 @@
-// What the tests share: sheet E, random sheets, and calls on a marked buffer.
+// What the tests share: sheet E, random sheets, calls on a marked buffer, and empty folders.
 #![allow(dead_code)] // each test file uses a part of it
 
 use second::answer::Answer;
@@ -7,6 +7,7 @@ use second::limits::RECORD_BYTES;
 use second::make::{good, STYLES};
 use second::rng::Rng;
 use second::sheet::Sheet;
+use std::path::{Path, PathBuf};
 
 /// What a buffer holds before a call.
 pub const BEFORE: u8 = 165;
@@ -64,4 +65,12 @@ pub fn decode(
         assert!(out.iter().all(|&byte| byte == BEFORE), "untouched");
         (answer, None)
     }
+}
+
+/// An empty folder for one test.
+pub fn folder(name: &str) -> PathBuf {
+    let folder = Path::new(env!("CARGO_TARGET_TMPDIR")).join(name);
+    let _ = std::fs::remove_dir_all(&folder);
+    std::fs::create_dir_all(&folder).unwrap();
+    folder
 }
