@@ -1,17 +1,33 @@
-// The commands: write the vectors, compare them with files, answer requests.
+// The commands: write the vectors, compare them with files, answer requests; the same for the
+// sample lot and for what the programs are held to; and what these programs do.
 // The vectors are the bytes of all requests (stdin) and of their answers (stdout).
 
+use second::calls;
+use second::files::{self, first_difference, shown, File};
+use second::lot::Lot;
+use second::programs;
 use second::protocol::{write_answer, Request};
 use second::requests;
+use second::rng::Rng;
+use second::show::show;
+use second::words::Codewords;
 use std::collections::BTreeMap;
 use std::io::{self, Read, Write};
 use std::path::Path;
 use std::process::ExitCode;
 
 const USAGE: &str = "usage:
-  second vectors DIR   write DIR/stdin and DIR/stdout, the requests and their answers
-  second compare DIR   make both again and compare them with the files byte by byte
-  second answer        answer the requests on standard input
+  second vectors DIR            write DIR/stdin and DIR/stdout, the requests and their answers
+  second compare DIR            make both again and compare them with the files byte by byte
+  second answer                 answer the requests on standard input
+  second stream DIR             answer the words on standard input, by DIR/sheet.bin and DIR/choice.bin
+  second show                   print the answer records on standard input for a person
+  second words DIR COUNT SEED   write so many damaged words of DIR/sheet.bin and DIR/choice.bin
+  second lot DIR                write the sample lot
+  second compare-lot DIR        make it again and compare
+  second programs CRATES        write what the programs recover and show read and must write
+  second compare-programs CRATES
+                                make it again and compare
 ";
 
 /// All requests and their answers as bytes, the end of each, and how often each op gave each code.
@@ -73,18 +89,6 @@ fn grouped(number: usize) -> String {
     text
 }
 
-/// The first byte at which the two differ; where one ends counts as a difference.
-fn first_difference(ours: &[u8], theirs: &[u8]) -> Option<usize> {
-    let shorter = ours.len().min(theirs.len());
-    (0..shorter)
-        .find(|&at| ours[at] != theirs[at])
-        .or((ours.len() != theirs.len()).then_some(shorter))
-}
-
-fn shown(byte: Option<&u8>) -> String {
-    byte.map_or("the end".to_string(), u8::to_string)
-}
-
 fn compare(dir: &Path) -> io::Result<Result<String, String>> {
     let vectors = Vectors::make();
     for (file, ours, ends) in [
@@ -132,17 +136,97 @@ fn answer() -> io::Result<()> {
     io::stdout().write_all(&answers)
 }
 
+/// All of standard input; a failed read counts as its end.
+fn input() -> Vec<u8> {
+    let mut input = Vec::new();
+    // what was read before the failure stands in the input
+    let _ = io::stdin().read_to_end(&mut input);
+    input
+}
+
+/// A file of a folder; one that is missing or cannot be read counts as empty.
+fn file_or_empty(dir: &Path, name: &str) -> Vec<u8> {
+    std::fs::read(dir.join(name)).unwrap_or_default()
+}
+
+/// Answers the words on standard input; does not read them where one record answers all.
+fn stream(dir: &Path) -> io::Result<()> {
+    let [sheet, choice] = ["sheet.bin", "choice.bin"].map(|name| file_or_empty(dir, name));
+    let words = match calls::stream_numbers(&sheet, &choice) {
+        Ok(_) => input(),
+        Err(_) => Vec::new(),
+    };
+    io::stdout().write_all(&calls::answer_records(&sheet, &choice, &words))
+}
+
+/// Writes so many damaged words of a folder's sheet.
+fn words(dir: &Path, count: &str, seed: &str) -> io::Result<()> {
+    let number = |text: &str| text.parse::<u64>().map_err(io::Error::other);
+    let refused = |code| io::Error::other(format!("refused {code}"));
+    let (count, mut rng) = (number(count)?, Rng::new(number(seed)?));
+    let sheet = std::fs::read(dir.join("sheet.bin"))?;
+    let choice = std::fs::read(dir.join("choice.bin"))?;
+    let (n, r, _) = calls::stream_numbers(&sheet, &choice).map_err(refused)?;
+    let codewords = Codewords::new(n, &sheet, r).map_err(|answer| refused(answer.code))?;
+    let mut out = io::BufWriter::new(io::stdout().lock());
+    for _ in 0..count {
+        out.write_all(&codewords.damaged(&mut rng))?;
+    }
+    out.flush()
+}
+
+/// One line of sizes with what came of them.
+fn sizes(files: &[File], outcome: &str) -> String {
+    let bytes = files.iter().map(|file| file.bytes.len()).sum();
+    let count = files.len();
+    format!(
+        "second: {count} files, {} bytes: {outcome}\n",
+        grouped(bytes)
+    )
+}
+
+fn write_files(dir: &Path, files: &[File]) -> io::Result<String> {
+    files::write(dir, files)?;
+    Ok(sizes(files, "written"))
+}
+
+fn compare_files(dir: &Path, files: &[File]) -> Result<String, String> {
+    match files::compare(dir, files) {
+        Ok(()) => Ok(sizes(files, "equal")),
+        Err(difference) => Err(format!("second: {difference}\n")),
+    }
+}
+
+/// Prints what a comparison found: a difference fails.
+fn outcome(compared: Result<String, String>) -> ExitCode {
+    match compared {
+        Ok(report) => {
+            print!("{report}");
+            ExitCode::SUCCESS
+        }
+        Err(difference) => {
+            eprint!("{difference}");
+            ExitCode::FAILURE
+        }
+    }
+}
+
 fn run(arguments: &[&str]) -> io::Result<ExitCode> {
     match arguments {
         ["vectors", dir] => print!("{}", write_vectors(Path::new(dir))?),
-        ["compare", dir] => match compare(Path::new(dir))? {
-            Ok(report) => print!("{report}"),
-            Err(difference) => {
-                eprint!("{difference}");
-                return Ok(ExitCode::FAILURE);
-            }
-        },
+        ["compare", dir] => return Ok(outcome(compare(Path::new(dir))?)),
         ["answer"] => answer()?,
+        ["stream", dir] => stream(Path::new(dir))?,
+        ["show"] => io::stdout().write_all(show(&input()).as_bytes())?,
+        ["words", dir, count, seed] => words(Path::new(dir), count, seed)?,
+        ["lot", dir] => print!("{}", write_files(Path::new(dir), &Lot::make().files())?),
+        ["compare-lot", dir] => {
+            return Ok(outcome(compare_files(Path::new(dir), &Lot::make().files())))
+        }
+        ["programs", dir] => print!("{}", write_files(Path::new(dir), &programs::files())?),
+        ["compare-programs", dir] => {
+            return Ok(outcome(compare_files(Path::new(dir), &programs::files())))
+        }
         _ => {
             eprint!("{USAGE}");
             return Ok(ExitCode::from(2));
