@@ -7,7 +7,7 @@ use mathlib.Core.Path.{_≡_, refl, sym, ap, _∙_}
 use Prim.Native.Nat.{ℕ, suc, min, _+_, _-_, _*_, _/_, _^_, _≤_, _<_}
 use native.Mathlib.Omega.{arith}
 use native.Mathlib.Numerals.{add-one}
-use native.Mathlib.Nat.{zero-add, div-eq-of-lt, add-div-right, div-le-self, le-div-iff-mul-le}
+use native.Mathlib.Nat.{zero-add, div-eq-of-lt, add-div-right, div-le-self, le-div-iff-mul-le, div-lt-iff-lt-mul}
 use mathlib.Core.Bool.{Bool, true, false, not}
 use mathlib.Core.List.{List, [], _∷_}
 use lib.ListN.{length, drop, getD}
@@ -81,6 +81,15 @@ module _ (a b : ℕ) (h : 1 ≤ b) where
           let p : 0 < b = omega arith in
           let q : suc i * b ≤ a + (b - 1) = le-div-iff-mul-le p .0 l in
           omega (arith, q)
+
+-- no more words than would be whole
+pub rounded-few : (a b k : ℕ) → 1 ≤ b → a ≤ k * b → roundedUp a b ≤ k
+unfolding roundedUp
+rounded-few a b k h l =
+    let p : 0 < b = omega arith in
+    let q : a + (b - 1) < suc k * b = omega (arith, (let e : suc k * b ≡ k * b + b = omega arith in e)) in
+    let r : (a + (b - 1)) / b < suc k = div-lt-iff-lt-mul p .1 q in
+    omega arith
 
 -- word i of k starts within the input
 pub begins : (len size n i k : ℕ) → size ≡ 2 ^ n → k ≡ roundedUp len (2 ^ n) → i < k → i * size < len

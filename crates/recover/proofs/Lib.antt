@@ -1,0 +1,2 @@
+-- Runs: the records of a run have room.
+pub mod Runs
