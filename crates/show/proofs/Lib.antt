@@ -1,0 +1,1 @@
+-- Shown: a strip's digits, one after the other.

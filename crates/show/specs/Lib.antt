@@ -1,0 +1,2 @@
+-- Digits: a strip as digits.
+pub mod Digits
