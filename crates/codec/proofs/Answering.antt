@@ -3,7 +3,7 @@
 --     encode-sheet, encode-word, Accepted, accepted      encode: refused for the sheet, for the payload; not refused
 --     read-sheet, read-word, Read, reads                 read-back: the same
 use mathlib.Core.Path.{_≡_, sym, ap, ap₂, _∙_, subst}
-use Prim.Native.Nat.{ℕ, _-_, _*_, _^_, _≤_}
+use Prim.Native.Nat.{ℕ, _-_, _*_, _/_, _^_, _≤_}
 use native.Mathlib.Omega.{arith}
 use mathlib.Core.Bool.{Bool, true, false}
 use mathlib.Core.List.{List, [], _∷_, _++_, map}
@@ -28,6 +28,7 @@ use Rattle.meaning.proofs.Encode.{length-free}
 use Rattle.meaning.proofs.ReadBack.{encode-is, read-is}
 use Rattle.codec.specs.Division.{AreBits}
 use Rattle.codec.specs.Ready.{Ready, Whole, Legible, Extracted}
+use Rattle.form.proofs.Records.{records-in}
 use Rattle.codec.proofs.Sending.{bits-are}
 use Rattle.codec.proofs.Reading.{length-u, rules-u}
 
@@ -56,11 +57,13 @@ module _ (n : ℕ) (s : List ℕ) (r : ℕ) (a : Answer) (ea : a ≡ checking n 
   pub passed-good : b ≡ true → Good n s r
   passed-good t = good n s r (checked-none n s r (done-is true t))
 
-  pub passed : b ≡ true → (size k : ℕ) → size ≡ 2 ^ n → k ≡ frees (tab size (ruleAt s)) → Passed n s r size k
+  pub passed : b ≡ true → (size k : ℕ) → size ≡ length s / recordBytes → k ≡ frees (tab (length s / recordBytes) (ruleAt s)) → Passed n s r size k
   unfolding rules
-  passed t size k es ek =
+  passed t size k el ek =
       let g = passed-good t in
-      let count : k ≡ frees (rules n s) = ek ∙ ap (λ (m : ℕ). frees (tab m (ruleAt s))) es in
+      let en : length s / recordBytes ≡ 2 ^ n = records-in (length s) (2 ^ n) (g .long) in
+      let es : size ≡ 2 ^ n = el ∙ en in
+      let count : k ≡ frees (rules n s) = ek ∙ ap (λ (m : ℕ). frees (tab m (ruleAt s))) en in
       let low : size ≤ 2 ^ largestN = omega (arith, es, pow-mono (g .small)) in
       record {
         none = checked-none n s r (done-is true t);
@@ -69,7 +72,7 @@ module _ (n : ℕ) (s : List ℕ) (r : ℕ) (a : Answer) (ea : a ≡ checking n 
         long = g .long ∙ ap (λ (m : ℕ). m * recordBytes) (sym es);
         count = count;
         enough = omega (arith, count, g .roomy);
-        fits = omega (arith, ek, frees-le (tab size (ruleAt s)), length-tab size (ruleAt s));
+        fits = omega (arith, count, low, es, frees-le (rules n s), length-rules n s);
         low = low;
       }
 

@@ -1,9 +1,5 @@
--- Records: a record's rules in the parts that the code tests. Checking, Wording: what checking a sheet or a word answers, refusal by refusal.
 -- Transforming: the transform in place. Division: the check's division on words. Packing: values packed into words.
 -- Placing: the vector that the rules give, and its free bits. Sending: from a payload to its codeword. Reading: from a word to its payload. Answering: the answers of encode and read-back.
-pub mod Records
-pub mod Checking
-pub mod Wording
 pub mod Transforming
 pub mod Division
 pub mod Packing

@@ -1,6 +1,5 @@
--- Records: the rules for a record in the parts that the code tests. Bytes: the transform over bytes. Division: the check's remainder as a word.
+-- Bytes: the transform over bytes. Division: the check's remainder as a word.
 -- Packed: values packed into words. Ready: what is known once nothing is refused.
-pub mod Records
 pub mod Bytes
 pub mod Division
 pub mod Packed

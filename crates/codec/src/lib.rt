@@ -1,4 +1,4 @@
-// The code sheet's check, encoding and read-back. Every function here is total: what is faulty is refused with its number,
+// Encoding and read-back. Every function here is total: what is faulty is refused with its number,
 // in 01's order, and a refusal leaves the output as found.
 ghost use mathlib.Core.Path.{_≡_};
 ghost use mathlib.Core.Logic.{_⊎_};
@@ -13,58 +13,14 @@ ghost use Rattle.meaning.specs.Check.{poly, freeBits, keeps};
 ghost use Rattle.meaning.specs.Payload.{remainder, encoded};
 ghost use Rattle.codec.specs.Division.{AreBits};
 ghost use Rattle.codec.specs.Ready.{Ready, Whole, Legible, Extracted};
-ghost use Rattle.meaning.specs.Answers.{checking, wording, encoding, readingBack, leaving, isOne};
+ghost use Rattle.meaning.specs.Answers.{encoding, readingBack, leaving, isOne};
 
 mod register;
 mod rules;
-mod sheet;
 mod transform;
-mod word;
 
+use form::limits;
 use meaning::Answer;
-
-// Checks a sheet of N = 2 to the n records, with its check length r.
-// Answers Done, or BadShape (11: n above 7, or not 20N bytes), BadRecord (12: the place of the first record that breaks
-// any rule), BadCheck (13: r not 0, 6 or 11, or r above 0 and no more than r free positions); the first that applies.
-pub fn check_sheet(n: usize, sheet: &[u8], r: usize) -> Answer
-    ensures { λ a. ⌜ a ≡ checking n (now (sheet .entry)) r ⌝ }
-{
-    if sheet::LARGEST_N < n {
-        return Answer::BadShape;
-    }
-    let size = sheet::size_of(n);
-    if sheet.len() != size * sheet::RECORD {
-        return Answer::BadShape;
-    }
-    let place = sheet::first_bad(sheet, size);
-    if place < size {
-        return Answer::BadRecord { place };
-    }
-    let k = sheet::frees(sheet, size);
-    if sheet::bad_check(r, k) {
-        return Answer::BadCheck;
-    }
-    Answer::Done
-}
-
-// Checks a word that is to be `wanted` symbols long, none above `top`, whose call is given `room` bytes and needs `needed`.
-// Answers Done, or BadLength (14), BadSymbol (15: the place of the first symbol above `top`), ShortOutput (16); the first
-// that applies.
-pub fn check_word(word: &[u8], wanted: usize, top: u8, room: usize, needed: usize) -> Answer
-    ensures { λ a. ⌜ a ≡ wording wanted top needed (now (word .entry)) room ⌝ }
-{
-    if word.len() != wanted {
-        return Answer::BadLength;
-    }
-    let place = word::first_above(word, top);
-    if place < word.len() {
-        return Answer::BadSymbol { place };
-    }
-    if room < needed {
-        return Answer::ShortOutput;
-    }
-    Answer::Done
-}
 
 // The K free bits of a payload: the payload, then its r check bits.
 fn with_check(payload: &[u8], r: usize, free: &mut [u8])
@@ -100,13 +56,13 @@ fn encode_in(
     requires { ⌜ 2 ^ largestN ≤ length (now free) ⌝ }
     ensures { λ a. ⌜ leaving (now (out .exit)) a ≡ encoding n (now (sheet .entry)) r (now (payload .entry)) (now (out .entry)) ⌝ }
 {
-    let a = check_sheet(n, sheet, r);
+    let a = form::check_sheet(n, sheet, r);
     if !meaning::is_done(a) {
         return a;
     }
-    let size = sheet::size_of(n);
-    let k = sheet::frees(sheet, size);
-    let b = check_word(payload, k - r, 1, out.len(), size);
+    let size = sheet.len() / limits::RECORD;
+    let k = form::count_free(sheet);
+    let b = form::check_word(payload, k - r, 1, out.len(), size);
     if !meaning::is_done(b) {
         return b;
     }
@@ -115,12 +71,12 @@ fn encode_in(
 }
 
 // Writes the codeword of a payload: K - r bytes of 0 or 1, K the number of free positions of the sheet.
-// Answers Done and writes N symbols, later bytes as found; or refuses by 11 to 16 (check_sheet; 14: the payload is not K - r
+// Answers Done and writes N symbols, later bytes as found; or refuses by 11 to 16 (form::check_sheet; 14: the payload is not K - r
 // long; 15: the first payload bit above 1; 16: the output is shorter than N) and leaves the output as found.
 pub fn encode(n: usize, sheet: &[u8], r: usize, payload: &[u8], out: &mut [u8]) -> Answer
     ensures { λ a. ⌜ leaving (now (out .exit)) a ≡ encoding n (now (sheet .entry)) r (now (payload .entry)) (now (out .entry)) ⌝ }
 {
-    let mut free = [0u8; sheet::POSITIONS];
+    let mut free = [0u8; limits::POSITIONS];
     encode_in(n, sheet, r, payload, &mut free, out)
 }
 
@@ -184,14 +140,14 @@ fn read_in(
     requires { ⌜ (2 ^ largestN ≤ length (now u)) × (2 ^ largestN ≤ length (now free)) × (2 ^ largestN ≤ length (now v)) ⌝ }
     ensures { λ a. ⌜ leaving (now (out .exit)) a ≡ readingBack n (now (sheet .entry)) r (now (word .entry)) (now (out .entry)) ⌝ }
 {
-    let a = check_sheet(n, sheet, r);
+    let a = form::check_sheet(n, sheet, r);
     if !meaning::is_done(a) {
         return a;
     }
-    let size = sheet::size_of(n);
-    let k = sheet::frees(sheet, size);
+    let size = sheet.len() / limits::RECORD;
+    let k = form::count_free(sheet);
     let m = k - r;
-    let b = check_word(word, size, 1, out.len(), m);
+    let b = form::check_word(word, size, 1, out.len(), m);
     if !meaning::is_done(b) {
         return b;
     }
@@ -213,13 +169,13 @@ fn read_in(
 
 // Reads the payload back from a whole codeword: N bytes of 0 or 1.
 // Answers Done and writes the K - r payload bits, later bytes as found; Inconsistent (2) where the word is no codeword; or
-// refuses by 11 to 16 (check_sheet; 14: the word is not N long; 15: the first symbol above 1; 16: the output is shorter than
+// refuses by 11 to 16 (form::check_sheet; 14: the word is not N long; 15: the first symbol above 1; 16: the output is shorter than
 // K - r). All but Done leave the output as found.
 pub fn read_back(n: usize, sheet: &[u8], r: usize, word: &[u8], out: &mut [u8]) -> Answer
     ensures { λ a. ⌜ leaving (now (out .exit)) a ≡ readingBack n (now (sheet .entry)) r (now (word .entry)) (now (out .entry)) ⌝ }
 {
-    let mut u = [0u8; sheet::POSITIONS];
-    let mut free = [0u8; sheet::POSITIONS];
-    let mut v = [0u8; sheet::POSITIONS];
+    let mut u = [0u8; limits::POSITIONS];
+    let mut free = [0u8; limits::POSITIONS];
+    let mut v = [0u8; limits::POSITIONS];
     read_in(n, sheet, r, word, &mut u, &mut free, &mut v, out)
 }

@@ -13,7 +13,15 @@ ghost use Rattle.meaning.specs.Payload.{place};
 ghost use Rattle.meaning.specs.Answers.{isOne};
 ghost use Rattle.codec.specs.Division.{AreBits};
 ghost use Rattle.codec.specs.Packed.{held};
-use crate::sheet;
+use form::limits;
+
+// Byte k of record i.
+fn byte_at(sheet: &[u8], i: usize, k: usize) -> u8
+    requires { ⌜ (k < recordBytes) × ((i + 1) * recordBytes ≤ length (now sheet)) ⌝ }
+    ensures { λ r. ⌜ r ≡ byte (now (sheet .entry)) i k ⌝ }
+{
+    sheet[i * limits::RECORD + k]
+}
 
 // A byte as a word.
 fn wide(x: u8) -> u64
@@ -27,10 +35,10 @@ fn odd_named(sheet: &[u8], i: usize, values: &[u8]) -> u8
     requires { ⌜ ((i + 1) * recordBytes ≤ length (now sheet)) × (length (now values) ≡ maskBytes) ⌝ }
     ensures { λ r. ⌜ r ≡ bit (odd (mask (now (sheet .entry)) i) (held (now (values .entry)))) ⌝ }
 {
-    let at = i * sheet::RECORD + 4;
+    let at = i * limits::RECORD + 4;
     let mut o: u8 = 0;
     let mut k = 0;
-    while k < sheet::MASK {
+    while k < limits::MASK {
         o = o ^ bits::parity(wide(sheet[at + k]), wide(values[k]));
         k += 1;
     }
@@ -43,11 +51,7 @@ fn rule_bit(sheet: &[u8], i: usize, values: &[u8]) -> u8
     ensures { λ r. ⌜ r ≡ bit (eqb (byte (now (sheet .entry)) i 1) 1 ⊕ odd (mask (now (sheet .entry)) i) (held (now (values .entry)))) ⌝ }
 {
     let o = odd_named(sheet, i, values);
-    if sheet::byte_at(sheet, i, 1) == 1 {
-        o ^ 1
-    } else {
-        o
-    }
+    if byte_at(sheet, i, 1) == 1 { o ^ 1 } else { o }
 }
 
 // Puts the value b of position i in.
@@ -64,12 +68,12 @@ pub fn place_bits(sheet: &[u8], free: &[u8], u: &mut [u8])
     requires { ⌜ AreBits (now free) × (length (now free) ≡ frees (tab (length (now u)) (ruleAt (now sheet)))) ⌝ }
     ensures { λ _. ⌜ now (u .exit) ≡ map bit (place (tab (length (now (u .entry))) (ruleAt (now (sheet .entry)))) [] (map isOne (now (free .entry)))) ⌝ }
 {
-    let mut values = [0u8; sheet::MASK];
+    let mut values = [0u8; limits::MASK];
     let mut next = 0;
     let mut i = 0;
     while i < u.len() {
         let mut b = 0;
-        if sheet::byte_at(sheet, i, 0) == 0 {
+        if byte_at(sheet, i, 0) == 0 {
             b = free[next];
             next += 1;
         } else {
@@ -90,7 +94,7 @@ pub fn take_free(sheet: &[u8], u: &[u8], free: &mut [u8])
     let mut next = 0;
     let mut i = 0;
     while i < u.len() {
-        if sheet::byte_at(sheet, i, 0) == 0 {
+        if byte_at(sheet, i, 0) == 0 {
             free[next] = u[i];
             next += 1;
         }

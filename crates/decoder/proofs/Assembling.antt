@@ -18,7 +18,7 @@ use Rattle.bits.specs.Vectors.{_⊕_, bit, tab, all}
 use Rattle.bits.specs.Rows.{Row}
 use Rattle.bits.specs.Words.{wordBits}
 use Rattle.bits.proofs.Tests.{tab-ext, length-tab}
-use Rattle.codec.proofs.Records.{shl-one}
+use Rattle.form.proofs.Records.{shl-one}
 use Rattle.gf2.specs.Rows.{has, rows, rowsOf}
 use Rattle.gf2.specs.System.{dot, parity, unpack, consistent}
 use Rattle.gf2.proofs.Fill.{dot-append}

@@ -66,12 +66,12 @@ fn decode_in(
     requires { ⌜ (2 ^ largestN * 2 ≤ length (now vals)) × (2 ^ largestN * 2 ≤ length (now us)) × (2 ^ largestN * 2 ≤ length (now eqs)) ⌝ }
     ensures { λ a. ⌜ leaving (now (out .exit)) a ≡ decoding n (now (sheet .entry)) r ceiling (now (word .entry)) (now (out .entry)) ⌝ }
 {
-    let a = codec::check_sheet(n, sheet, r);
+    let a = form::check_sheet(n, sheet, r);
     if !meaning::is_done(a) {
         return a;
     }
     let size = size_of(n);
-    let b = codec::check_word(word, size, 2, out.len(), 3 * size);
+    let b = form::check_word(word, size, 2, out.len(), 3 * size);
     if !meaning::is_done(b) {
         return b;
     }
@@ -95,7 +95,7 @@ fn decode_in(
 // Says what can be known of a word of N symbols: 0, 1, or 2 where the symbol is erased.
 // Answers Unique (0), Ambiguous (1) or Inconsistent (2), with g unknowns, m equations and dimension d. Unique and Ambiguous
 // write 3N bytes: the settled strip (2 where candidates differ), the first candidate and the last; later bytes are as found.
-// Refuses by 11 to 18 (check_sheet; 14: the word is not N long; 15: the first symbol above 2; 16: the output is shorter than
+// Refuses by 11 to 18 (form::check_sheet; 14: the word is not N long; 15: the first symbol above 2; 16: the output is shorter than
 // 3N; 17: the ceiling is above 63; 18: g is above the ceiling). Inconsistent and refusals leave the output as found.
 pub fn decode(
     n: usize,

@@ -46,7 +46,7 @@ fn call(
     out: &mut [u8],
 ) -> Reply {
     match op {
-        0 => Reply::Answered(codec::check_sheet(n, a, r)),
+        0 => Reply::Answered(form::check_sheet(n, a, r)),
         1 => Reply::Answered(codec::encode(n, a, r, b, out)),
         2 => Reply::Answered(decoder::decode(n, a, r, ceiling, b, out)),
         3 => Reply::Answered(codec::read_back(n, a, r, b, out)),

@@ -1,24 +1,25 @@
-use mathlib.Core.Path.{_≡_, sym, ap, _∙_}
-use Prim.Native.Nat.{ℕ, _*_, _-_}
+use mathlib.Core.Path.{_≡_, refl, sym, _∙_}
+use Prim.Native.Nat.{_-_, _/_}
 use native.Mathlib.Omega.{arith}
 use lib.ListN.{length, take, length-take}
 use borrow.Author.Tests.{not-true, not-false}
 use borrow.Author.Needs.{needs}
-use Rattle.meaning.specs.Limits.{recordBytes}
-use Rattle.codec.proofs.Answering.{Passed, passed, passed-good, read-sheet, read-word, Read, reads}
+use Rattle.meaning.specs.Limits.{recordBytes, maskBytes}
+use Rattle.codec.proofs.Answering.{Passed, passed, read-sheet, read-word, Read, reads}
 use Rattle.codec.proofs.read_in.Statement.{statement}
 use Rattle.codec.proofs.read_in.Tie as tie
 
 -- the sheet passed
-passed-at : (c : tie.After-frees) → let start = c .before .before .before .before .before .before .before .before .before .before .before in
-    Passed (start .args .n) (start .args .sheet .now) (start .args .r) (c .before .size-of .result) (c .frees .result)
+passed-at : (c : tie.After-count-free) → let start = c .before .before .before .before .before .before .before .before .before .before in
+    Passed (start .args .n) (start .args .sheet .now) (start .args .r) (length (start .args .sheet .now) / recordBytes) (c .count-free .result)
 passed-at c =
-    let test = c .before .before in
-    passed _ _ _ _ (test .before .before .check-sheet .ensures) _ (test .before .is-done .ensures) (not-false _ (test .if1 .left)) _ _ (c .before .size-of .ensures) (c .frees .ensures)
+    let test = c .before in
+    passed _ _ _ _ (test .before .before .check-sheet .ensures) _ (test .before .is-done .ensures) (not-false _ (test .if1 .left)) _ _ refl (c .count-free .ensures)
 
 -- the word passed, too
-read-at : (c : tie.Else2) → let count = c .before .before .before in let start = count .before .before .before .before .before .before .before .before .before .before .before in
-    Read (start .args .n) (start .args .sheet .now) (start .args .r) (count .before .size-of .result) (count .frees .result) (start .args .word .now) (start .args .out .now)
+read-at : (c : tie.Else2) → let count = c .before .before .before in let start = count .before .before .before .before .before .before .before .before .before .before in
+    Read (start .args .n) (start .args .sheet .now) (start .args .r) (length (start .args .sheet .now) / recordBytes) (count .count-free .result) (start .args .word .now) (start .args .out .now)
+unfolding recordBytes maskBytes
 read-at c =
     let count = c .before .before .before in
     reads _ _ _ _ _ (passed-at count) _ _ _ (c .before .before .check-word .ensures) _ (c .before .is-done2 .ensures) (not-false _ (c .if2 .left))
@@ -33,14 +34,8 @@ returns : tie.Need-returns
 returns c =
     read-sheet _ _ _ _ (c .before .before .check-sheet .ensures) _ (c .before .is-done .ensures) _ _ (not-true _ (c .if1 .taken))
 
-size-of-requires : tie.Need-size-of-requires
-size-of-requires c κs =
-    (passed-good _ _ _ _ (c .before .before .check-sheet .ensures) _ (c .before .is-done .ensures) (not-false _ (c .if1 .left))) .small
-
-frees-requires : tie.Need-frees-requires
-frees-requires c κs =
-    let test = c .before in
-    (passed-good _ _ _ _ (test .before .before .check-sheet .ensures) _ (test .before .is-done .ensures) (not-false _ (test .if1 .left))) .long ∙ ap (λ (m : ℕ). m * recordBytes) (sym (c .size-of .ensures))
+count-free-requires : tie.Need-count-free-requires
+count-free-requires c κs = search needs
 
 sub-m : tie.Need-sub-m
 sub-m c = (passed-at c) .enough
@@ -52,6 +47,7 @@ is-done-requires-2 : tie.Need-is-done-requires-2
 is-done-requires-2 c κs = search needs
 
 returns-2 : tie.Need-returns-2
+unfolding recordBytes maskBytes
 returns-2 c =
     let count = c .before .before .before in
     read-word _ _ _ _ _ (passed-at count) _ _ _ (c .before .before .check-word .ensures) _ (c .before .is-done2 .ensures) (not-true _ (c .if2 .taken))
@@ -63,9 +59,10 @@ part-extract-start : tie.Need-part-extract-start
 part-extract-start c = search needs
 
 part-extract-end : tie.Need-part-extract-end
+unfolding recordBytes maskBytes
 part-extract-end c =
     let count = c .before .before .before in
-    omega (arith, (passed-at count) .low, count .before .before .before .before .before .before .before .before .before .before .before .pre .0)
+    omega (arith, (passed-at count) .low, count .before .before .before .before .before .before .before .before .before .before .pre .0)
 
 sub-extract-2 : tie.Need-sub-extract-2
 sub-extract-2 c = search needs
@@ -76,7 +73,7 @@ part-extract-start-2 c = search needs
 part-extract-end-2 : tie.Need-part-extract-end-2
 part-extract-end-2 c =
     let count = c .before .before .before .before in
-    omega (arith, (passed-at count) .fits, count .before .before .before .before .before .before .before .before .before .before .before .pre .1)
+    omega (arith, (passed-at count) .fits, count .before .before .before .before .before .before .before .before .before .before .pre .1)
 
 sub-extract-3 : tie.Need-sub-extract-3
 sub-extract-3 c = search needs
@@ -85,20 +82,23 @@ part-extract-start-3 : tie.Need-part-extract-start-3
 part-extract-start-3 c = search needs
 
 part-extract-end-3 : tie.Need-part-extract-end-3
+unfolding recordBytes maskBytes
 part-extract-end-3 c =
     let count = c .before .before .before .before .before in
-    omega (arith, (passed-at count) .low, count .before .before .before .before .before .before .before .before .before .before .before .pre .2)
+    omega (arith, (passed-at count) .low, count .before .before .before .before .before .before .before .before .before .before .pre .2)
 
 extract-requires : tie.Need-extract-requires
+unfolding recordBytes maskBytes
 extract-requires c κs =
     let test = c .before .before .before .before in
     let count = test .before .before .before in
-    let start = count .before .before .before .before .before .before .before .before .before .before .before in
+    let start = count .before .before .before .before .before .before .before .before .before .before in
+    let size = length (start .args .sheet .now) / recordBytes in
     let p = passed-at count in
     let q = read-at test in
-    let lu : length (take (count .before .size-of .result - 0) (start .args .u .now)) ≡ count .before .size-of .result = simp length-take (omega (arith, p .low, start .pre .0)) in
-    let lf : length (take (count .frees .result - 0) (start .args .free .now)) ≡ count .frees .result = simp length-take (omega (arith, p .fits, start .pre .1)) in
-    let lv : length (take (count .before .size-of .result - 0) (start .args .v .now)) ≡ count .before .size-of .result = simp length-take (omega (arith, p .low, start .pre .2)) in
+    let lu : length (take (size - 0) (start .args .u .now)) ≡ size = simp length-take (omega (arith, p .low, start .pre .0)) in
+    let lf : length (take (count .count-free .result - 0) (start .args .free .now)) ≡ count .count-free .result = simp length-take (omega (arith, p .fits, start .pre .1)) in
+    let lv : length (take (size - 0) (start .args .v .now)) ≡ size = simp length-take (omega (arith, p .low, start .pre .2)) in
     ((q .legible _ _ lf lv, lu ∙ p .length-is), (omega arith, q .roomy))
 
 same-length : tie.Need-same-length
@@ -114,6 +114,7 @@ same-length-4 : tie.Need-same-length-4
 same-length-4 c = search needs
 
 returns-3 : tie.Need-returns-3
+unfolding recordBytes maskBytes
 returns-3 c =
     let call = c .before .before .before .before .before .before .before .before .before in
     let test = call .before .before .before .before .before in
@@ -132,6 +133,7 @@ same-length-8 : tie.Need-same-length-8
 same-length-8 c = search needs
 
 returns-4 : tie.Need-returns-4
+unfolding recordBytes maskBytes
 returns-4 c =
     let call = c .before .before .before .before .before .before .before .before .before in
     let test = call .before .before .before .before .before in
@@ -144,8 +146,7 @@ read-in-spec =
     check-sheet-requires
     is-done-requires
     returns
-    size-of-requires
-    frees-requires
+    count-free-requires
     sub-m
     check-word-requires
     is-done-requires-2

@@ -1,6 +1,6 @@
 use native.Mathlib.Omega.{arith}
 use Rattle.meaning.specs.Limits.{largestN}
-use Rattle.codec.proofs.Records.{shl-one}
+use Rattle.form.proofs.Records.{shl-one}
 use Rattle.decoder.proofs.size_of.Statement.{statement}
 use Rattle.decoder.proofs.size_of.Tie as tie
 

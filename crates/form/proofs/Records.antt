@@ -1,0 +1,163 @@
+-- A record is fine exactly when its head is and it names no position from the first barred one on; the count of free records, one by one.
+use mathlib.Core.Path.{_≡_, refl, sym, ap, _∙_}
+use Prim.Native.Nat.{ℕ, zero, suc, _+_, _*_, _/_, _%_, _^_, _<_, _≤_}
+use native.Mathlib.Omega.{arith}
+use native.Mathlib.Nat.{one-mul, mod-eq-of-lt}
+use native.Mathlib.Numerals.{add-one}
+use mathlib.Core.Bool.{Bool, true, false, _&&_, not}
+use mathlib.Core.List.{List, _∷_}
+use lib.ListN.{length, drop, getD, drop-of-length-le}
+use lib.Seq.{drop-cons}
+use lib.Dec.{eqb, leb}
+use lib.Pow.{pow-lt}
+use borrow.Author.Tests.{le-leb, lt-leb, eq-eqb, ne-eqb}
+use Rattle.bits.specs.Vectors.{pick, tab, zeros, firstPlace}
+use Rattle.bits.proofs.Tests.{length-tab, tab-at, place-found, place-next, place-end, all-fails, all-next, all-end}
+use Rattle.meaning.specs.Limits.{maskBytes, recordBytes}
+use Rattle.meaning.specs.Sheet.{byte, names, mask, fine, Rule, free, frozen, frees, ruleAt}
+use Rattle.meaning.specs.Answers.{badCheck}
+use Rattle.form.specs.Records.{headFine, barred}
+
+and-false : (a : Bool) → a && false ≡ false
+and-false true = refl
+and-false false = refl
+
+pub fine-parts : (s : List ℕ) (i : ℕ) → fine s i ≡ headFine s i && zeros (drop (barred s i) (mask s i))
+unfolding fine headFine barred
+fine-parts s i = go (byte s i 0) (byte s i 1) (eqb (byte s i 2) 0) (eqb (byte s i 3) 0)
+  where
+    z : ℕ → Bool
+    z k = zeros (drop k (mask s i))
+
+    go : (k c : ℕ) (a b : Bool) → leb k 1 && leb c 1 && a && b && pick (eqb k 0) (eqb c 0 && z 0) (z i) ≡ leb k 1 && leb c k && a && b && z (pick (eqb k 0) 0 i)
+    go zero zero a b = refl
+    go zero (suc c) a b = rw (lt-leb (suc c) 0 (omega arith), ne-eqb (suc c) 0 (λ e. omega arith)) (and-false (leb (suc c) 1 && a && b))
+    go (suc zero) c a b = refl
+    go (suc (suc k)) c a b = rw (lt-leb (suc (suc k)) 1 (omega arith))
+
+-- ---- powers of two
+
+pub shl-one : (n : ℕ) → n < 64 → 1 * 2 ^ n % 2 ^ 64 ≡ 2 ^ n
+shl-one n h = rw (one-mul (2 ^ n)) (mod-eq-of-lt (pow-lt h))
+
+-- ---- a sheet of whole records has this many
+
+pub records-in : (l size : ℕ) → l ≡ size * recordBytes → l / recordBytes ≡ size
+unfolding recordBytes maskBytes
+records-in l size e = omega (arith, e)
+
+-- ---- the head, test by test
+
+module _ (s : List ℕ) (i : ℕ) where
+  pub head-kind : 1 < byte s i 0 → false ≡ headFine s i
+  unfolding headFine
+  head-kind h = rw (lt-leb (byte s i 0) 1 h)
+
+  pub head-constant : byte s i 0 < byte s i 1 → false ≡ headFine s i
+  unfolding headFine
+  head-constant h = rw (lt-leb (byte s i 1) (byte s i 0) h, and-false (leb (byte s i 0) 1))
+
+  pub head-two : (byte s i 2 ≡ 0 → ⊥) → false ≡ headFine s i
+  unfolding headFine
+  head-two h = rw (ne-eqb (byte s i 2) 0 h, and-false (leb (byte s i 0) 1 && leb (byte s i 1) (byte s i 0)))
+
+  pub head-last : byte s i 0 ≤ 1 → byte s i 1 ≤ byte s i 0 → byte s i 2 ≡ 0 → eqb (byte s i 3) 0 ≡ headFine s i
+  unfolding headFine
+  head-last h k e = rw (le-leb (byte s i 0) 1 h, le-leb (byte s i 1) (byte s i 0) k, eq-eqb (byte s i 2) 0 e)
+
+-- ---- the search for a bad record
+
+module _ (s : List ℕ) (i : ℕ) where
+  pub head-bad : headFine s i ≡ false → fine s i ≡ false
+  head-bad h = fine-parts s i ∙ rw h
+
+  pub mask-bad : zeros (drop (barred s i) (mask s i)) ≡ false → fine s i ≡ false
+  mask-bad h = fine-parts s i ∙ rw h (and-false (headFine s i))
+
+  pub both-fine : headFine s i ≡ true → zeros (drop (barred s i) (mask s i)) ≡ true → fine s i ≡ true
+  both-fine h k = fine-parts s i ∙ rw (h, k)
+
+  -- position j of the mask: named, or passed over, or past the end
+  length-mask : length (mask s i) ≡ 8 * maskBytes
+  unfolding mask
+  length-mask = length-tab (8 * maskBytes) (names s i)
+
+  mask-at : (j : ℕ) → j < 8 * maskBytes → getD (mask s i) j false ≡ names s i j
+  unfolding mask
+  mask-at j h = tab-at (8 * maskBytes) (names s i) j false h
+
+  pub named : (j : ℕ) → j < 8 * maskBytes → names s i j ≡ true → zeros (drop j (mask s i)) ≡ false
+  named j h e = all-fails not (mask s i) j false (omega (arith, length-mask)) (ap not (mask-at j h ∙ e))
+
+  pub not-named : (j : ℕ) → j < 8 * maskBytes → names s i j ≡ false → zeros (drop j (mask s i)) ≡ zeros (drop (j + 1) (mask s i))
+  not-named j h e = rw add-one (all-next not (mask s i) j false (omega (arith, length-mask)) (ap not (mask-at j h ∙ e)))
+
+  pub mask-end : (j : ℕ) → 8 * maskBytes ≤ j → zeros (drop j (mask s i)) ≡ true
+  mask-end j h = all-end not (mask s i) j (omega (arith, length-mask))
+
+module _ (s : List ℕ) (size i : ℕ) where
+  abbrev flags : List Bool
+  flags = tab size (fine s)
+
+  -- what is left to search at record i
+  abbrev pub Left : ℕ → Type 0
+  Left k = k + firstPlace not (drop k flags) ≡ firstPlace not flags
+
+  flag-at : i < size → getD flags i true ≡ fine s i
+  flag-at h = tab-at size (fine s) i true h
+
+  pub stops : i < size → fine s i ≡ false → Left i → i ≡ firstPlace not flags
+  stops h e l = sym (place-found not flags i true (omega (arith, length-tab size (fine s))) (ap not (flag-at h ∙ e))) ∙ l
+
+  pub goes-on : i < size → fine s i ≡ true → Left i → Left (i + 1)
+  goes-on h e l = rw add-one (sym (place-next not flags i true (omega (arith, length-tab size (fine s))) (ap not (flag-at h ∙ e))) ∙ l)
+
+  pub ends : size ≤ i → Left i → i ≡ firstPlace not flags
+  ends h l = sym (place-end not flags i (omega (arith, length-tab size (fine s)))) ∙ l
+
+-- ---- the count of free records
+
+frees-cons : (k : Rule) (ks : List Rule) (b : Bool) (c : Bool) (m : List Bool) → k ≡ pick b free (frozen c m) → frees (k ∷ ks) ≡ pick b (suc (frees ks)) (frees ks)
+frees-cons k ks true c m e = ap (λ (x : Rule). frees (x ∷ ks)) e
+frees-cons k ks false c m e = ap (λ (x : Rule). frees (x ∷ ks)) e
+
+module _ (s : List ℕ) (size i k : ℕ) where
+  abbrev kinds : List Rule
+  kinds = tab size (ruleAt s)
+
+  -- what is left to count at record i
+  abbrev pub Counted : ℕ → ℕ → Type 0
+  Counted j c = c + frees (drop j kinds) ≡ frees kinds
+
+  here : i < size → frees (drop i kinds) ≡ pick (eqb (byte s i 0) 0) (suc (frees (drop (suc i) kinds))) (frees (drop (suc i) kinds))
+  unfolding ruleAt
+  here h =
+      ap frees (drop-cons kinds i free (omega (arith, length-tab size (ruleAt s))))
+      ∙ frees-cons (getD kinds i free) (drop (suc i) kinds) (eqb (byte s i 0) 0) (eqb (byte s i 1) 1) (mask s i) (tab-at size (ruleAt s) i free h)
+
+  pub one-free : i < size → byte s i 0 ≡ 0 → Counted i k → Counted (i + 1) (k + 1)
+  one-free h e l =
+      let t : frees (drop i kinds) ≡ suc (frees (drop (suc i) kinds)) = here h ∙ ap (λ (b : Bool). pick b (suc (frees (drop (suc i) kinds))) (frees (drop (suc i) kinds))) (eq-eqb (byte s i 0) 0 e) in
+      rw (add-one i) (omega (arith, l))
+
+  pub one-frozen : i < size → (byte s i 0 ≡ 0 → ⊥) → Counted i k → Counted (i + 1) k
+  one-frozen h e l =
+      let t : frees (drop i kinds) ≡ frees (drop (suc i) kinds) = here h ∙ ap (λ (b : Bool). pick b (suc (frees (drop (suc i) kinds))) (frees (drop (suc i) kinds))) (ne-eqb (byte s i 0) 0 e) in
+      rw (add-one i) (omega (arith, l))
+
+  pub all-counted : size ≤ i → Counted i k → k ≡ frees kinds
+  all-counted h l = omega (arith, l, ap frees (drop-of-length-le kinds {i = i} (omega (arith, length-tab size (ruleAt s)))))
+
+-- ---- the check length
+
+pub no-length : (r k : ℕ) → (r ≡ 0 → ⊥) → (r ≡ 6 → ⊥) → eqb r 11 ≡ false → badCheck r k ≡ true
+unfolding badCheck
+no-length r k a b c = rw (ne-eqb r 0 a, ne-eqb r 6 b, c)
+
+pub six : (r k : ℕ) → r ≡ 6 → badCheck r k ≡ leb k r
+unfolding badCheck
+six r k e = rw e
+
+pub eleven : (r k : ℕ) → r ≡ 11 → badCheck r k ≡ leb k r
+unfolding badCheck
+eleven r k e = rw e

@@ -1,0 +1,16 @@
+use native.Mathlib.Omega.{arith}
+use Rattle.meaning.specs.Limits.{largestN}
+use Rattle.form.proofs.Records.{shl-one}
+use Rattle.form.proofs.sheet.size_of.Statement.{statement}
+use Rattle.form.proofs.sheet.size_of.Tie as tie
+
+shl-result : tie.Need-shl-result
+unfolding largestN
+shl-result c = omega arith
+
+returns : tie.Need-returns
+unfolding largestN
+returns c = shl-one (c .args .n) (omega arith)
+
+pub size-of-spec : {M : Type 1} → statement M
+size-of-spec = tie.close (tie.spec shl-result returns)
