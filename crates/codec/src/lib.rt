@@ -5,14 +5,16 @@ ghost use mathlib.Core.Logic.{_⊎_};
 ghost use mathlib.Core.List.{map, _++_};
 ghost use Prim.Native.Nat.{_+_, _^_, _≤_};
 ghost use lib.ListN.{length};
-ghost use Rattle.bits.specs.Vectors.{bit, tab};
+ghost use Rattle.bits.specs.Vectors.{bit, pick, tab};
 ghost use Rattle.meaning.specs.Limits.{largestN, leads};
 ghost use Rattle.meaning.specs.Transform.{polar};
 ghost use Rattle.meaning.specs.Sheet.{ruleAt, rules};
 ghost use Rattle.meaning.specs.Check.{poly, freeBits, keeps};
 ghost use Rattle.meaning.specs.Payload.{remainder, encoded};
 ghost use Rattle.codec.specs.Division.{AreBits};
+ghost use Rattle.codec.specs.Faults.{encodeFault, readFault};
 ghost use Rattle.codec.specs.Ready.{Ready, Whole, Legible, Extracted};
+ghost use Rattle.meaning.specs.declared.Answer.the-variants.{Done, Inconsistent};
 ghost use Rattle.meaning.specs.Answers.{encoding, readingBack, leaving, isOne};
 
 mod register;
@@ -44,6 +46,19 @@ fn send(n: usize, sheet: &[u8], r: usize, payload: &[u8], free: &mut [u8], x: &m
     transform::transform(x, n);
 }
 
+// The fault of form that an encoding is refused for: the sheet's, the payload's or the output's. Done where there is none.
+fn encode_fault(n: usize, sheet: &[u8], r: usize, payload: &[u8], room: usize) -> Answer
+    ensures { λ a. ⌜ a ≡ encodeFault n (now (sheet .entry)) r (now (payload .entry)) room ⌝ }
+{
+    let a = form::check_sheet(n, sheet, r);
+    if !meaning::is_done(a) {
+        return a;
+    }
+    let size = sheet.len() / limits::RECORD;
+    let k = form::count_free(sheet);
+    form::check_word(payload, k - r, 1, room, size)
+}
+
 // `encode`, with room for the free bits.
 fn encode_in(
     n: usize,
@@ -56,16 +71,12 @@ fn encode_in(
     requires { ⌜ 2 ^ largestN ≤ length (now free) ⌝ }
     ensures { λ a. ⌜ leaving (now (out .exit)) a ≡ encoding n (now (sheet .entry)) r (now (payload .entry)) (now (out .entry)) ⌝ }
 {
-    let a = form::check_sheet(n, sheet, r);
+    let a = encode_fault(n, sheet, r, payload, out.len());
     if !meaning::is_done(a) {
         return a;
     }
     let size = sheet.len() / limits::RECORD;
-    let k = form::count_free(sheet);
-    let b = form::check_word(payload, k - r, 1, out.len(), size);
-    if !meaning::is_done(b) {
-        return b;
-    }
+    let k = payload.len() + r;
     send(n, sheet, r, payload, &mut free[0..k], &mut out[0..size]);
     Answer::Done
 }
@@ -126,6 +137,30 @@ fn extract(
     true
 }
 
+// The fault of form that a reading is refused for: the sheet's, the word's or the output's. Done where there is none.
+fn read_fault(n: usize, sheet: &[u8], r: usize, word: &[u8], room: usize) -> Answer
+    ensures { λ a. ⌜ a ≡ readFault n (now (sheet .entry)) r (now (word .entry)) room ⌝ }
+{
+    let a = form::check_sheet(n, sheet, r);
+    if !meaning::is_done(a) {
+        return a;
+    }
+    let size = sheet.len() / limits::RECORD;
+    let k = form::count_free(sheet);
+    form::check_word(word, size, 1, room, k - r)
+}
+
+// What read-back answers where nothing is refused: whether the word is a codeword.
+fn outcome(whole: bool) -> Answer
+    ensures { λ a. ⌜ a ≡ pick whole Done (Inconsistent 0 0) ⌝ }
+{
+    if whole {
+        Answer::Done
+    } else {
+        Answer::Inconsistent { g: 0, m: 0 }
+    }
+}
+
 // `read_back`, with room for two vectors and for the free bits.
 fn read_in(
     n: usize,
@@ -140,31 +175,24 @@ fn read_in(
     requires { ⌜ (2 ^ largestN ≤ length (now u)) × (2 ^ largestN ≤ length (now free)) × (2 ^ largestN ≤ length (now v)) ⌝ }
     ensures { λ a. ⌜ leaving (now (out .exit)) a ≡ readingBack n (now (sheet .entry)) r (now (word .entry)) (now (out .entry)) ⌝ }
 {
-    let a = form::check_sheet(n, sheet, r);
+    let a = read_fault(n, sheet, r, word, out.len());
     if !meaning::is_done(a) {
         return a;
     }
-    let size = sheet.len() / limits::RECORD;
+    let size = word.len();
     let k = form::count_free(sheet);
-    let m = k - r;
-    let b = form::check_word(word, size, 1, out.len(), m);
-    if !meaning::is_done(b) {
-        return b;
-    }
-    if !extract(
+    let whole = extract(
         n,
         sheet,
         r,
         word,
-        m,
+        k - r,
         &mut u[0..size],
         &mut free[0..k],
         &mut v[0..size],
         out,
-    ) {
-        return Answer::Inconsistent { g: 0, m: 0 };
-    }
-    Answer::Done
+    );
+    outcome(whole)
 }
 
 // Reads the payload back from a whole codeword: N bytes of 0 or 1.
