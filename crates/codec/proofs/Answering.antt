@@ -133,7 +133,7 @@ pub record Read (n : ℕ) (s : List ℕ) (r k : ℕ) (w out : List ℕ) : Type 0
   pub low : length w ≤ 2 ^ largestN
   pub long : length w ≡ 2 ^ n
   pub roomy : k - r ≤ length out
-  pub legible : (j m : ℕ) → j ≡ k → m ≡ length w → Legible n s r w j m
+  pub legible : (j : ℕ) → j ≡ k → Legible n s r w j
   pub told : (out′ : List ℕ) (b : Bool) (v : Answer) → Extracted n s r w (k - r) out out′ b → v ≡ pick b Done (Inconsistent 0 0) → leaving out′ v ≡ readingBack n s r w out
 
 module _ (n : ℕ) (s : List ℕ) (r : ℕ) (w out : List ℕ) (a : Answer) (ea : a ≡ readFault n s r w (length out)) (b : Bool) (eb : b ≡ isDone a) where
@@ -174,9 +174,9 @@ module _ (n : ℕ) (s : List ℕ) (r : ℕ) (w out : List ℕ) (a : Answer) (ea 
     answer : readingBack n s r w out ≡ pick (keeps (rules n s) r us) (writing (map bit (payloadOf n (rules n s) r (map isOne w))) out Done) (leaving out (Inconsistent 0 0))
     answer = read-is n s r w out none
 
-    whole : (j m : ℕ) → j ≡ k → m ≡ length w → (u : List ℕ) → u ≡ map bit us → Whole s r u j m
+    whole : (j : ℕ) → j ≡ k → (u : List ℕ) → u ≡ map bit us → Whole s r u j
     unfolding largestN maskBytes
-    whole j m ej em u e =
+    whole j ej u e =
         let lu : length u ≡ 2 ^ n = length-u n s w u word-long e in
         let ru : tab (length u) (ruleAt s) ≡ rules n s = rules-u n s w u word-long e in
         record {
@@ -186,7 +186,6 @@ module _ (n : ℕ) (s : List ℕ) (r : ℕ) (w out : List ℕ) (a : Answer) (ea 
           check = sheet .check;
           bits = subst (λ (l : List ℕ). AreBits l) (sym e) (bits-are us);
           count = ej ∙ count ∙ ap frees (sym ru);
-          room = em ∙ word-long ∙ sym lu;
         }
 
     -- the payload has K - r bits
@@ -212,6 +211,6 @@ module _ (n : ℕ) (s : List ℕ) (r : ℕ) (w out : List ℕ) (a : Answer) (ea 
           low = omega (arith, word-long, pow-mono (sheet .small));
           long = word-long;
           roomy = omega (arith, count, word .roomy);
-          legible = λ j m ej em. record { bits = bits-back w (word .symbols); long = word-long; behind = whole j m ej em };
+          legible = λ j ej. record { bits = bits-back w (word .symbols); long = word-long; behind = whole j ej };
           told = λ out′ t v x e. ap (leaving out′) e ∙ replied out′ t x;
         }

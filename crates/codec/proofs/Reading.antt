@@ -1,14 +1,15 @@
 -- From a whole word to its payload, in the values that the code has.
 --     unsent              the vector behind a word
 --     nothing, something  what is left in the output
---     again, broken, held     whether it keeps the rules: it is the vector that they give for its own free bits
+--     broken, held        whether it keeps the rules: it is the vector that they give for its own free bits
+--     lent, compared      the comparison with the vector that the rules give
 use mathlib.Core.Path.{_≡_, refl, sym, ap, ap₂, _∙_, subst}
-use Prim.Native.Nat.{ℕ, _*_, _^_, _≤_}
+use Prim.Native.Nat.{ℕ, _-_, _*_, _^_, _≤_}
 use native.Mathlib.Omega.{arith}
 use mathlib.Core.Bool.{Bool, true, false, _&&_, true≢false}
 use mathlib.Core.List.{List, [], _++_, map, append-nil}
-use lib.ListN.{length, take, drop, length-map, length-take, drop-of-length-le}
-use lib.Seq.{take-all}
+use lib.ListN.{length, take, drop, length-append, length-map, length-take, drop-of-length-le}
+use lib.Seq.{take-all, take-append-seam}
 use lib.Dec.{eqb}
 use Rattle.bits.specs.Vectors.{bit, tab}
 use Rattle.bits.proofs.Tests.{length-tab}
@@ -23,7 +24,7 @@ use Rattle.meaning.proofs.Encode.{length-free, keeps-place, place-unique}
 use Rattle.meaning.proofs.ReadBack.{ones-back}
 use Rattle.codec.specs.Bytes.{polarBytes}
 use Rattle.codec.specs.Division.{AreBits, Fed}
-use Rattle.codec.specs.Ready.{Whole, Extracted}
+use Rattle.codec.specs.Ready.{Whole, Extracted, Tells}
 use Rattle.codec.proofs.Transforming.{polar-bytes}
 use Rattle.codec.proofs.Division.{fed-zero, take-map}
 use Rattle.codec.proofs.Sending.{bits-are}
@@ -51,23 +52,23 @@ module _ (n : ℕ) (s : List ℕ) (w u : List ℕ) (lw : length w ≡ 2 ^ n) (e 
     tells : b ≡ keeps (rules n s) r (polar n (map isOne w))
     tells = eb ∙ ap₂ (λ (l : List Rule) (x : List Bool). keeps l r x) rules-u back
 
-    pub nothing : b ≡ false → Extracted n s r w m out out false
-    nothing t = record { tells = sym t ∙ tells; leaves = refl }
+    pub nothing : b ≡ false → Extracted n s r w m out out b
+    nothing t = record { tells = tells; leaves = rw t }
 
     pub something : b ≡ true → (f out′ : List ℕ) → f ≡ map bit (freeBits (tab (length u) (ruleAt s)) (map isOne u)) → m ≤ length f
-        → out′ ≡ take (length (take m f)) (take m f) ++ drop (length (take m f)) out → Extracted n s r w m out out′ true
+        → out′ ≡ take (length (take m f)) (take m f) ++ drop (length (take m f)) out → Extracted n s r w m out out′ b
     something t f out′ ef lm eo =
         let fb : List Bool = freeBits (rules n s) (polar n (map isOne w)) in
         let lf : length (take m f) ≡ m = simp length-take (omega arith) in
         let es : take m f ≡ map bit (take m fb) = ap (take m) (ef ∙ ap₂ (λ (l : List Rule) (x : List Bool). map bit (freeBits l x)) rules-u back) ∙ take-map bit m fb in
         record {
-          tells = sym t ∙ tells;
-          leaves = eo ∙ ap₂ {C = List ℕ} (λ (x : List ℕ) (j : ℕ). x ++ drop j out) (take-all (length (take m f)) (take m f) (omega arith) ∙ es) lf;
+          tells = tells;
+          leaves = rw t (eo ∙ ap₂ {C = List ℕ} (λ (x : List ℕ) (j : ℕ). x ++ drop j out) (take-all (length (take m f)) (take m f) (omega arith) ∙ es) lf);
         }
 
 -- ---- whether it keeps the rules
 
-module _ (s : List ℕ) (r : ℕ) (u : List ℕ) (k m : ℕ) (ok : Whole s r u k m) where
+module _ (s : List ℕ) (r : ℕ) (u : List ℕ) (k : ℕ) (ok : Whole s r u k) where
   abbrev ks : List Rule
   ks = tab (length u) (ruleAt s)
 
@@ -84,31 +85,45 @@ module _ (s : List ℕ) (r : ℕ) (u : List ℕ) (k m : ℕ) (ok : Whole s r u k
     pub free-bits : AreBits f
     free-bits = subst (λ (l : List ℕ). AreBits l) (sym ef) (bits-are (freeBits ks us))
 
-    -- the free bits give the vector again
-    pub place-again : (v : List ℕ) → length v ≡ m → ((length s ≡ length v * recordBytes) × (length v ≤ 8 * maskBytes)) × (AreBits f × (length f ≡ frees (tab (length v) (ruleAt s))))
-    place-again v lv =
-        let e : length v ≡ length u = lv ∙ ok .room in (
-          (ok .long ∙ ap (λ (j : ℕ). j * recordBytes) (sym e), omega (arith, ok .within)),
-          (free-bits, ap length ef ∙ length-map (freeBits ks us) bit ∙ length-free ks us length-us ∙ ap (λ (j : ℕ). frees (tab j (ruleAt s))) (sym e)),
-        )
+    pub place-again : ((length s ≡ length u * recordBytes) × (length u ≤ 8 * maskBytes)) × (AreBits f × (length f ≡ frees ks))
+    place-again = ((ok .long, ok .within), (free-bits, ap length ef ∙ length-map (freeBits ks us) bit ∙ length-free ks us length-us))
 
-    module _ (v y : List ℕ) (lv : length v ≡ m) (ey : y ≡ map bit (place (tab (length v) (ruleAt s)) [] (map isOne f))) where
-      again : y ≡ map bit (place ks [] (freeBits ks us))
-      again = ey ∙ ap₂ (λ (j : ℕ) (b : List Bool). map bit (place (tab j (ruleAt s)) [] b)) (lv ∙ ok .room) frees-back
+    -- b tells whether the free bits give the vector again
+    module _ (b : Bool) (tell : Tells b (u ≡ map bit (place ks [] (map isOne f)))) where
+      again : map bit (place ks [] (map isOne f)) ≡ map bit (place ks [] (freeBits ks us))
+      again = ap (λ (x : List Bool). map bit (place ks [] x)) frees-back
 
       -- another vector: a rule is broken
-      pub broken : (b : Bool) → (u ≡ y → b ≡ true) → b ≡ false → false ≡ keeps ks r us
+      pub broken : b ≡ false → false ≡ keeps ks r us
       unfolding keeps
-      broken b h e = go (keepsRules ks us us) refl
+      broken e = go (keepsRules ks us us) refl
         where
           go : (t : Bool) → keepsRules ks us us ≡ t → false ≡ t && divides r (leads r ++ freeBits ks us)
-          go true q = absurd (true≢false (sym (h (sym (ok .bits) ∙ ap (map bit) (place-unique ks [] us (ok .ordered) length-us q) ∙ sym again)) ∙ e))
+          go true q = absurd (true≢false (sym (tell .no (sym (ok .bits) ∙ ap (map bit) (place-unique ks [] us (ok .ordered) length-us q) ∙ sym again)) ∙ e))
           go false q = refl
 
       -- the same vector: every rule is kept, and the check decides
-      pub held : (w : ℕ) → u ≡ y → Fed r (map isOne f) w → eqb w 0 ≡ keeps ks r us
+      pub held : b ≡ true → (w : ℕ) → Fed r (map isOne f) w → eqb w 0 ≡ keeps ks r us
       unfolding keeps
-      held w h d =
-          let same : us ≡ place ks [] (freeBits ks us) = ap (map isOne) (h ∙ again) ∙ ones-back (place ks [] (freeBits ks us)) in
+      held e w d =
+          let same : us ≡ place ks [] (freeBits ks us) = ap (map isOne) (tell .yes e ∙ again) ∙ ones-back (place ks [] (freeBits ks us)) in
           let kept : keepsRules ks us us ≡ true = subst (λ (x : List Bool). keepsRules ks x x ≡ true) (sym same) (keeps-place ks [] (freeBits ks us) (ok .ordered)) in
           rw kept (sym (fed-zero r (freeBits ks us) w (subst (λ (x : List Bool). Fed r x w) frees-back d)))
+
+-- ---- the comparison, with a part l of the room as long as u
+
+module _ (s f u l : List ℕ) (el : length l ≡ length u) where
+  pub lent : ((length s ≡ length u * recordBytes) × (length u ≤ 8 * maskBytes)) × (AreBits f × (length f ≡ frees (tab (length u) (ruleAt s))))
+      → ((length s ≡ length l * recordBytes) × (length l ≤ 8 * maskBytes)) × (AreBits f × (length f ≡ frees (tab (length l) (ruleAt s))))
+  lent h = rw el h
+
+  -- x is written there, before v
+  pub within : (x v : List ℕ) → length x ≡ length l → length u ≤ length (x ++ v)
+  within x v lx = omega (arith, length-append x v, el, lx)
+
+  pub compared : (x v : List ℕ) → length x ≡ length l → x ≡ map bit (place (tab (length l) (ruleAt s)) [] (map isOne f)) → (b : Bool) → (b ≡ true → u ≡ take (length u - 0) (x ++ v)) → (u ≡ take (length u - 0) (x ++ v) → b ≡ true)
+      → Tells b (u ≡ map bit (place (tab (length u) (ruleAt s)) [] (map isOne f)))
+  compared x v lx ex b p q =
+      let lu : length u - 0 ≡ length x = omega (arith, el, lx) in
+      let e : take (length u - 0) (x ++ v) ≡ map bit (place (tab (length u) (ruleAt s)) [] (map isOne f)) = rw lu (take-append-seam x v) ∙ ex ∙ ap (λ (m : ℕ). map bit (place (tab m (ruleAt s)) [] (map isOne f))) el in
+      record { yes = λ t. p t ∙ e; no = λ h. q (h ∙ sym e) }

@@ -100,20 +100,19 @@ fn unsend(n: usize, word: &[u8], u: &mut [u8])
     transform::transform(u, n);
 }
 
-// Whether u keeps every frozen rule and the check; takes its free bits out on the way. `v` is room for a vector.
-fn lawful(sheet: &[u8], r: usize, u: &[u8], free: &mut [u8], v: &mut [u8]) -> bool
-    requires { ⌜ Whole (now sheet) r (now u) (length (now free)) (length (now v)) ⌝ }
+// Whether u keeps every frozen rule and the check; takes its free bits out on the way.
+fn lawful(sheet: &[u8], r: usize, u: &[u8], free: &mut [u8]) -> bool
+    requires { ⌜ Whole (now sheet) r (now u) (length (now free)) ⌝ }
     ensures { λ b. ⌜ (b ≡ keeps (tab (length (now (u .entry))) (ruleAt (now (sheet .entry)))) r (map isOne (now (u .entry)))) × (now (free .exit) ≡ map bit (freeBits (tab (length (now (u .entry))) (ruleAt (now (sheet .entry)))) (map isOne (now (u .entry))))) ⌝ }
 {
     rules::take_free(sheet, u, free);
-    rules::place_bits(sheet, free, v);
-    if !check::same(u, v) {
+    if !rules::ruled(sheet, free, u) {
         return false;
     }
     register::feed(free, r) == 0
 }
 
-// Writes the first m free bits behind a word, if it is a codeword; answers whether it is. `u` and `v` have N places, `free` K.
+// Writes the first m free bits behind a word, if it is a codeword; answers whether it is. `u` has N places, `free` K.
 fn extract(
     n: usize,
     sheet: &[u8],
@@ -122,19 +121,18 @@ fn extract(
     m: usize,
     u: &mut [u8],
     free: &mut [u8],
-    v: &mut [u8],
     out: &mut [u8],
 ) -> bool
-    requires { ⌜ Legible n (now sheet) r (now word) (length (now free)) (length (now v)) × (length (now u) ≡ 2 ^ n) ⌝ }
+    requires { ⌜ Legible n (now sheet) r (now word) (length (now free)) × (length (now u) ≡ 2 ^ n) ⌝ }
     requires { ⌜ (m ≤ length (now free)) × (m ≤ length (now out)) ⌝ }
     ensures { λ b. ⌜ Extracted n (now (sheet .entry)) r (now (word .entry)) m (now (out .entry)) (now (out .exit)) b ⌝ }
 {
     unsend(n, word, u);
-    if !lawful(sheet, r, u, free, v) {
-        return false;
+    let whole = lawful(sheet, r, u, free);
+    if whole {
+        bytes::copy(&free[0..m], out);
     }
-    bytes::copy(&free[0..m], out);
-    true
+    whole
 }
 
 // The fault of form that a reading is refused for: the sheet's, the word's or the output's. Done where there is none.
@@ -161,7 +159,7 @@ fn outcome(whole: bool) -> Answer
     }
 }
 
-// `read_back`, with room for two vectors and for the free bits.
+// `read_back`, with room for a vector and for its free bits.
 fn read_in(
     n: usize,
     sheet: &[u8],
@@ -169,10 +167,9 @@ fn read_in(
     word: &[u8],
     u: &mut [u8],
     free: &mut [u8],
-    v: &mut [u8],
     out: &mut [u8],
 ) -> Answer
-    requires { ⌜ (2 ^ largestN ≤ length (now u)) × (2 ^ largestN ≤ length (now free)) × (2 ^ largestN ≤ length (now v)) ⌝ }
+    requires { ⌜ (2 ^ largestN ≤ length (now u)) × (2 ^ largestN ≤ length (now free)) ⌝ }
     ensures { λ a. ⌜ leaving (now (out .exit)) a ≡ readingBack n (now (sheet .entry)) r (now (word .entry)) (now (out .entry)) ⌝ }
 {
     let a = read_fault(n, sheet, r, word, out.len());
@@ -189,7 +186,6 @@ fn read_in(
         k - r,
         &mut u[0..size],
         &mut free[0..k],
-        &mut v[0..size],
         out,
     );
     outcome(whole)
@@ -204,6 +200,5 @@ pub fn read_back(n: usize, sheet: &[u8], r: usize, word: &[u8], out: &mut [u8]) 
 {
     let mut u = [0u8; limits::POSITIONS];
     let mut free = [0u8; limits::POSITIONS];
-    let mut v = [0u8; limits::POSITIONS];
-    read_in(n, sheet, r, word, &mut u, &mut free, &mut v, out)
+    read_in(n, sheet, r, word, &mut u, &mut free, out)
 }

@@ -13,6 +13,7 @@ ghost use Rattle.meaning.specs.Payload.{place};
 ghost use Rattle.meaning.specs.Answers.{isOne};
 ghost use Rattle.codec.specs.Division.{AreBits};
 ghost use Rattle.codec.specs.Packed.{held};
+ghost use Rattle.codec.specs.Ready.{Tells};
 use form::limits;
 
 // Byte k of record i.
@@ -100,4 +101,16 @@ pub fn take_free(sheet: &[u8], u: &[u8], free: &mut [u8])
         }
         i += 1;
     }
+}
+
+// Whether u is the vector that the rules give for these free bits.
+pub fn ruled(sheet: &[u8], free: &[u8], u: &[u8]) -> bool
+    requires { ⌜ (length (now sheet) ≡ length (now u) * recordBytes) × (length (now u) ≤ 8 * maskBytes) ⌝ }
+    requires { ⌜ AreBits (now free) × (length (now free) ≡ frees (tab (length (now u)) (ruleAt (now sheet)))) ⌝ }
+    ensures { λ b. ⌜ Tells b (now (u .entry) ≡ map bit (place (tab (length (now (u .entry))) (ruleAt (now (sheet .entry)))) [] (map isOne (now (free .entry))))) ⌝ }
+{
+    let mut v = [0u8; limits::POSITIONS];
+    let size = u.len();
+    place_bits(sheet, free, &mut v[0..size]);
+    check::same(u, &v[0..size])
 }

@@ -4,7 +4,6 @@ use Prim.Native.Nat.{ℕ}
 use native.Mathlib.Nat.{sub-zero}
 use native.Mathlib.Omega.{arith}
 use lib.ListN.{length, take, drop}
-use borrow.Author.Tests.{not-true, not-false}
 use borrow.Author.Needs.{needs}
 use Rattle.codec.proofs.Reading.{nothing, something}
 use Rattle.codec.proofs.extract.Statement.{statement}
@@ -14,26 +13,7 @@ unsend-requires : tie.Need-unsend-requires
 unsend-requires c κs = search needs
 
 lawful-requires : tie.Need-lawful-requires
-lawful-requires c κs =
-    let call = c .before .before .before .before .before in
-    let start = call .before .before .before .before .before .before .before .before in
-    start .pre .0 .0 .behind (call .unsend .last .1 .1 .0) (call .unsend .ensures)
-
-same-length : tie.Need-same-length
-same-length c = search needs
-
-same-length-2 : tie.Need-same-length-2
-same-length-2 c = search needs
-
-same-length-3 : tie.Need-same-length-3
-same-length-3 c = search needs
-
-returns : tie.Need-returns
-returns c =
-    let law = c .before .before .before .before .before in
-    let call = law .before .before .before .before .before .before in
-    let start = call .before .before .before .before .before .before .before .before in
-    nothing _ _ _ (call .unsend .last .1 .1 .0) (start .pre .0 .0 .long) (call .unsend .ensures) _ _ _ _ (law .lawful .ensures .0) (not-true _ (c .if1 .taken))
+lawful-requires c κs = let call = c .before .before .before .before in c .before .before .before .before .before .before .before .before .before .before .before .pre .0 .0 .behind (call .unsend .last .1 .1 .0) (call .unsend .ensures)
 
 sub-copy : tie.Need-sub-copy
 sub-copy c = search needs
@@ -47,30 +27,39 @@ part-copy-end c = search needs
 copy-requires : tie.Need-copy-requires
 copy-requires c κs = search needs
 
+same-length : tie.Need-same-length
+same-length c = search needs
+
+same-length-2 : tie.Need-same-length-2
+same-length-2 c = search needs
+
+same-length-3 : tie.Need-same-length-3
+same-length-3 c = search needs
+
+returns : tie.Need-returns
+returns c =
+    let copy = c .before .before in
+    let test = c .before .before .before .before .before .before in
+    let law = c .before .before .before .before .before .before .before .before .before in
+    let call = c .before .before .before .before .before .before .before .before .before .before .before .before .before .before in
+    let start = c .before .before .before .before .before .before .before .before .before .before .before .before .before .before .before .before .before .before .before .before .before in
+    let f = law .lawful .last .1 .1 .1 .0 in
+    let m = start .args .m in
+    something _ _ _ (call .unsend .last .1 .1 .0) (start .pre .0 .0 .long) (call .unsend .ensures) _ _ _ _ (law .lawful .ensures .0) (test .if1 .taken)
+    f (copy .copy .last .1 .0) (law .lawful .ensures .1) (omega (arith, law .lawful .kept .1 .1 .1 .0, start .pre .1 .0))
+    (subst (λ (j : ℕ). copy .copy .last .1 .0 ≡ take (length (take j f)) (take j f) ++ drop (length (take j f)) (start .args .out .now)) (sub-zero m) (copy .copy .ensures .1))
+
 same-length-4 : tie.Need-same-length-4
 same-length-4 c = search needs
 
 same-length-5 : tie.Need-same-length-5
 same-length-5 c = search needs
 
-same-length-6 : tie.Need-same-length-6
-same-length-6 c = search needs
-
-same-length-7 : tie.Need-same-length-7
-same-length-7 c = search needs
-
 returns-2 : tie.Need-returns-2
 returns-2 c =
-    let copy = c .before .before in
-    let test = copy .before .before .before .before in
-    let law = test .before .before .before .before .before in
-    let call = law .before .before .before .before .before .before in
-    let start = call .before .before .before .before .before .before .before .before in
-    let f = law .lawful .last .1 .1 .1 .0 in
-    let m = start .args .m in
-    something _ _ _ (call .unsend .last .1 .1 .0) (start .pre .0 .0 .long) (call .unsend .ensures) _ _ _ _ (law .lawful .ensures .0) (not-false _ (test .if1 .left))
-    f (copy .copy .last .1 .0) (law .lawful .ensures .1) (omega (arith, law .lawful .kept .1 .1 .1 .0, start .pre .1 .0))
-    (subst (λ (j : ℕ). copy .copy .last .1 .0 ≡ take (length (take j f)) (take j f) ++ drop (length (take j f)) (start .args .out .now)) (sub-zero m) (copy .copy .ensures .1))
+    let law = c .before .before .before in
+    let call = c .before .before .before .before .before .before .before .before in
+    nothing _ _ _ (call .unsend .last .1 .1 .0) (c .before .before .before .before .before .before .before .before .before .before .before .before .before .before .before .pre .0 .0 .long) (call .unsend .ensures) _ _ _ _ (law .lawful .ensures .0) (c .if1 .left)
 
 pub extract-spec : {M : Type 1} → statement M
 extract-spec =
@@ -78,16 +67,14 @@ extract-spec =
     (tie.spec
     unsend-requires
     lawful-requires
-    same-length
-    same-length-2
-    same-length-3
-    returns
     sub-copy
     part-copy-start
     part-copy-end
     copy-requires
+    same-length
+    same-length-2
+    same-length-3
+    returns
     same-length-4
     same-length-5
-    same-length-6
-    same-length-7
     returns-2)

@@ -9,9 +9,6 @@ slice-aggregate-read-in c = search needs
 slice-aggregate-read-in-2 : tie.Need-slice-aggregate-read-in-2
 slice-aggregate-read-in-2 c = search needs
 
-slice-aggregate-read-in-3 : tie.Need-slice-aggregate-read-in-3
-slice-aggregate-read-in-3 c = search needs
-
 read-in-requires : tie.Need-read-in-requires
 unfolding largestN
 read-in-requires c κs = search needs
@@ -28,7 +25,6 @@ read-back-spec =
     (tie.spec
     slice-aggregate-read-in
     slice-aggregate-read-in-2
-    slice-aggregate-read-in-3
     read-in-requires
     same-length
     returns)

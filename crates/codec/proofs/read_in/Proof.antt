@@ -9,7 +9,7 @@ use Rattle.codec.proofs.read_in.Statement.{statement}
 use Rattle.codec.proofs.read_in.Tie as tie
 
 -- nothing is refused
-read-at : (c : tie.After-count-free) → let start = c .before .before .before .before .before .before .before .before .before .before in
+read-at : (c : tie.After-count-free) → let start = c .before .before .before .before .before .before .before .before .before in
     Read (start .args .n) (start .args .sheet .now) (start .args .r) (c .count-free .result) (start .args .word .now) (start .args .out .now)
 read-at c =
     let test = c .before in
@@ -37,7 +37,7 @@ part-extract-start : tie.Need-part-extract-start
 part-extract-start c = search needs
 
 part-extract-end : tie.Need-part-extract-end
-part-extract-end c = omega (arith, (read-at c) .low, c .before .before .before .before .before .before .before .before .before .before .pre .0)
+part-extract-end c = omega (arith, (read-at c) .low, c .before .before .before .before .before .before .before .before .before .pre .0)
 
 sub-extract-3 : tie.Need-sub-extract-3
 sub-extract-3 c = search needs
@@ -46,28 +46,18 @@ part-extract-start-2 : tie.Need-part-extract-start-2
 part-extract-start-2 c = search needs
 
 part-extract-end-2 : tie.Need-part-extract-end-2
-part-extract-end-2 c = omega (arith, (read-at (c .before)) .fits, c .before .before .before .before .before .before .before .before .before .before .before .pre .1)
-
-sub-extract-4 : tie.Need-sub-extract-4
-sub-extract-4 c = search needs
-
-part-extract-start-3 : tie.Need-part-extract-start-3
-part-extract-start-3 c = search needs
-
-part-extract-end-3 : tie.Need-part-extract-end-3
-part-extract-end-3 c = omega (arith, (read-at (c .before .before)) .low, c .before .before .before .before .before .before .before .before .before .before .before .before .pre .2)
+part-extract-end-2 c = omega (arith, (read-at (c .before)) .fits, c .before .before .before .before .before .before .before .before .before .before .pre .1)
 
 extract-requires : tie.Need-extract-requires
 extract-requires c κs =
-    let count = c .before .before .before .before in
-    let start = count .before .before .before .before .before .before .before .before .before .before in
+    let count = c .before .before .before in
+    let start = c .before .before .before .before .before .before .before .before .before .before .before .before in
     let ok = read-at count in
     let size = length (start .args .word .now) in
     let k = count .count-free .result in
     let lu : length (take (size - 0) (start .args .u .now)) ≡ size = simp length-take (omega (arith, ok .low, start .pre .0)) in
     let lf : length (take (k - 0) (start .args .free .now)) ≡ k = simp length-take (omega (arith, ok .fits, start .pre .1)) in
-    let lv : length (take (size - 0) (start .args .v .now)) ≡ size = simp length-take (omega (arith, ok .low, start .pre .2)) in
-    ((ok .legible _ _ lf lv, lu ∙ ok .long), (omega arith, ok .roomy))
+    ((ok .legible _ lf, lu ∙ ok .long), (omega arith, ok .roomy))
 
 outcome-requires : tie.Need-outcome-requires
 outcome-requires c κs = search needs
@@ -81,13 +71,8 @@ same-length-2 c = search needs
 same-length-3 : tie.Need-same-length-3
 same-length-3 c = search needs
 
-same-length-4 : tie.Need-same-length-4
-same-length-4 c = search needs
-
 returns-2 : tie.Need-returns-2
-returns-2 c =
-    let call = c .before .before .before .before .before .before .before .before .before in
-    (read-at (call .before .before .before .before .before)) .told _ _ _ (call .extract .ensures) (c .outcome .ensures)
+returns-2 c = (read-at (c .before .before .before .before .before .before .before .before .before .before .before)) .told _ _ _ (c .before .before .before .before .before .before .before .extract .ensures) (c .outcome .ensures)
 
 pub read-in-spec : {M : Type 1} → statement M
 read-in-spec =
@@ -104,13 +89,9 @@ read-in-spec =
     sub-extract-3
     part-extract-start-2
     part-extract-end-2
-    sub-extract-4
-    part-extract-start-3
-    part-extract-end-3
     extract-requires
     outcome-requires
     same-length
     same-length-2
     same-length-3
-    same-length-4
     returns-2)
