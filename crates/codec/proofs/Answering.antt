@@ -51,7 +51,7 @@ module _ (n : ℕ) (s : List ℕ) (r : ℕ) (a : Answer) (ea : a ≡ checking n 
   done-is t q = ap isDone (sym ea) ∙ sym eb ∙ q
 
   -- N and K, in the values that the code has
-  pub size-is : b ≡ true → length s / recordBytes ≡ 2 ^ n
+  size-is : b ≡ true → length s / recordBytes ≡ 2 ^ n
   size-is t = records-in (length s) (2 ^ n) ((good n s r (checked-none n s r (done-is true t))) .long)
 
   pub passed : b ≡ true → (k : ℕ) → k ≡ frees (tab (length s / recordBytes) (ruleAt s)) → Passed n s r k
