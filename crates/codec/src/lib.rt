@@ -145,7 +145,8 @@ fn read_fault(n: usize, sheet: &[u8], r: usize, word: &[u8], room: usize) -> Ans
     }
     let size = sheet.len() / limits::RECORD;
     let k = form::count_free(sheet);
-    form::check_word(word, size, 1, room, k - r)
+    let m = k - r;
+    form::check_word(word, size, 1, room, m)
 }
 
 // What read-back answers where nothing is refused: whether the word is a codeword.

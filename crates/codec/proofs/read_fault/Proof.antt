@@ -17,8 +17,8 @@ returns c = read-sheet _ _ _ _ (c .before .before .check-sheet .ensures) _ (c .b
 count-free-requires : tie.Need-count-free-requires
 count-free-requires c κs = search needs
 
-sub-check-word : tie.Need-sub-check-word
-sub-check-word c =
+sub-m : tie.Need-sub-m
+sub-m c =
     let test = c .before in
     (passed _ _ _ _ (test .before .before .check-sheet .ensures) _ (test .before .is-done .ensures) (not-false _ (test .if1 .left)) _ (c .count-free .ensures)) .enough
 
@@ -40,6 +40,6 @@ read-fault-spec =
     is-done-requires
     returns
     count-free-requires
-    sub-check-word
+    sub-m
     check-word-requires
     returns-2)
