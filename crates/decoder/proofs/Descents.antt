@@ -28,7 +28,8 @@ use Rattle.meaning.specs.declared.Answer.the-variants.{TooMany}
 use Rattle.meaning.proofs.Sound.{length-rules}
 use Rattle.model.specs.Model.{checks, run, system}
 use Rattle.descent.specs.Values.{rowValues}
-use Rattle.descent.specs.Descending.{widest, shaped, roomy, filled, fitting, Outcome, descended, found, written, descending}
+use Rattle.counting.specs.Counting.{shaped}
+use Rattle.descent.specs.Descending.{widest, roomy, filled, fitting, Outcome, descended, found, written, descending}
 use Rattle.descent.specs.declared.Descent.{Descent}
 use Rattle.descent.specs.declared.Descent.the-variants.{Misfit, Over, Done}
 use Rattle.descent.proofs.Promise.{Told, done-tells, found-equations}

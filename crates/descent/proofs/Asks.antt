@@ -1,6 +1,5 @@
 -- What the calls of `decode` ask of a block, and the numbers of its halves.
---     half-of, halves                 a block of 2 ^ k slots by its halves
---     from, back, from-length         the part from h on, as the borrow checker lends it and takes it back
+--     halves                          a block of 2 ^ k slots by its halves
 --     leaf-ask, ask-left, ask-right   what a position, the left half and the right half ask
 --     leaf-back, done                 the block is done
 use mathlib.Core.Path.{_≡_, refl, sym, ap, ap₂, _∙_}
@@ -13,40 +12,16 @@ use lib.Seq.{take-all, drop-at, length-take-le}
 use borrow.Rule.Slice.PartMut.{putMid}
 use Rattle.bits.specs.Rows.{Row}
 use Rattle.meaning.specs.Limits.{recordBytes, maskBytes}
+use Rattle.counting.proofs.Parts.{half-of, from, from-length}
 use Rattle.model.specs.Model.{Walk, joinOut}
 use Rattle.descent.specs.Values.{rowValues}
 use Rattle.descent.specs.Block.{walkOf, outOf, decoded, Parted, Settled, Joined}
 use Rattle.descent.proofs.Halves.{left-next, left-eqs, both-is, whole-done}
 
-two-pow : (n : ℕ) → (n ≡ 0 → ⊥) → 2 ^ n ≡ 2 ^ (n - 1) + 2 ^ (n - 1)
-two-pow zero p = absurd (p refl)
-two-pow (suc m) p =
-    let q : suc m - 1 ≡ m = omega arith in
-    rw q (pow-suc 2 m ∙ omega arith)
-
-pub half-of : (k m : ℕ) → (k ≡ 0 → ⊥) → m ≡ 2 ^ k → (m ≡ m / 2 + m / 2) × (m / 2 ≡ 2 ^ (k - 1))
-half-of k m p e = let q = two-pow k p in (omega arith, omega arith)
-
 pub halves : (k m v w : ℕ) → (k ≡ 0 → ⊥) → m ≡ 2 ^ k → v ≡ m * w → (m ≡ m / 2 + m / 2) × (m / 2 ≡ 2 ^ (k - 1)) × (v ≡ (m / 2) * w + (m / 2) * w)
 halves k m v w p em ev =
     let (a, b) = half-of k m p em in
     (a, b, ev ∙ ap (λ (x : ℕ). x * w) a ∙ add-mul (m / 2) (m / 2) w)
-
--- the part from h on, as the borrow checker lends it and takes it back
-pub from : (l : List ℕ) (h : ℕ) → take (length l - h) (drop h l) ≡ drop h l
-from l h = take-all (length l - h) (drop h l) (simp length-drop (omega arith))
-
-pub back : (l b : List ℕ) (h : ℕ) → putMid h (length l - h) l b ≡ take h l ++ b
-back l b h =
-    let q : length (drop h l) ≤ length l - h = simp length-drop (omega arith) in
-    rw (drop-of-length-le (drop h l) q, append-nil) refl
-
--- the same, once the part before h has come back as a
-pub from-back : (l a : List ℕ) (h : ℕ) → length a ≡ h → take (length (a ++ drop h l) - h) (drop h (a ++ drop h l)) ≡ drop h l
-from-back l a h e = from (a ++ drop h l) h ∙ drop-at a (drop h l) h e
-
-pub from-length : (l : List ℕ) (h : ℕ) → length l ≡ h + h → length (take (length l - h) (drop h l)) ≡ h
-from-length l h e = ap length (from l h) ∙ length-drop h l ∙ omega arith
 
 -- ---- what a call asks, of a block m, v
 

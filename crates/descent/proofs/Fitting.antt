@@ -1,6 +1,6 @@
 -- The test of what a caller hands over, in the values that the code has by then: size, N; whole, N rows of w words.
---     size-made, whole-fits            N, and N rows of w words, within a machine word
---     shaped-.., roomy-.., filled-..   each test of the code, and what the definition then says
+--     whole-fits                       N rows of w words, within a machine word
+--     roomy-.., filled-..              each test of the code, and what the definition then says
 --     fitting-..                       the whole test; what holds where all fits
 use mathlib.Core.Path.{_≡_, refl, sym, ap, ap₂, _∙_}
 use Prim.Native.Nat.{ℕ, _*_, _^_, _%_, _≤_, _<_}
@@ -14,10 +14,9 @@ use mir.Syntax.{w64}
 use borrow.Author.Tests.{ltb-true, leb-true, eqb-true, lt-ltb, le-ltb, le-leb, lt-leb, eq-eqb, ne-eqb, not-true}
 use Rattle.bits.proofs.Tests.{and-l, and-r}
 use Rattle.meaning.specs.Limits.{largestN, recordBytes, maskBytes}
-use Rattle.descent.specs.Descending.{widest, shaped, roomy, filled, fitting, Ready}
-
-pub size-made : (n : ℕ) → n < 64 → 1 * 2 ^ n % 18446744073709551616 ≡ 2 ^ n
-size-made n h = rw (one-mul (2 ^ n)) (mod-eq-of-lt (pow-lt {i = n} {j = 64} h))
+use Rattle.counting.specs.Counting.{shaped}
+use Rattle.counting.proofs.Lengths.{shaped-true}
+use Rattle.descent.specs.Descending.{widest, roomy, filled, fitting, Ready}
 
 pub whole-fits : (n size w : ℕ) → n ≤ largestN → w ≤ widest → size ≡ 2 ^ n → Fits w64 (size * w)
 unfolding largestN widest
@@ -26,19 +25,6 @@ whole-fits n size w h k e =
     let q : size ≤ 128 = omega arith in
     let r : size * w ≤ 128 * w = mul-le-mul-right w q in
     omega arith
-
-pub shaped-large : (n s d : ℕ) → largestN < n → shaped n s d ≡ false
-unfolding shaped
-shaped-large n s d h = rw (lt-leb n largestN h)
-
-module _ (n s d : ℕ) (h : n ≤ largestN) (size : ℕ) (e : size ≡ 2 ^ n) where
-  pub shaped-sheet : (s ≡ size * recordBytes → ⊥) → shaped n s d ≡ false
-  unfolding shaped
-  shaped-sheet q = rw (le-leb n largestN h, ← e, ne-eqb s (size * recordBytes) q)
-
-  pub shaped-word : s ≡ size * recordBytes → shaped n s d ≡ eqb d size
-  unfolding shaped
-  shaped-word q = rw (le-leb n largestN h, ← e, eq-eqb s (size * recordBytes) q)
 
 module _ (most c w : ℕ) where
   pub roomy-wide : widest < w → roomy most c w ≡ false
@@ -80,12 +66,6 @@ unfolding fitting
 fitting-filled n s d most c w v u e h k = rw (h, k)
 
 -- ---- where all fits
-
-pub shaped-true : (n s d : ℕ) → shaped n s d ≡ true → (n ≤ largestN) × (s ≡ 2 ^ n * recordBytes) × (d ≡ 2 ^ n)
-unfolding shaped
-shaped-true n s d h =
-    let k = and-r (leb n largestN) _ h in
-    (leb-true n largestN (and-l _ _ h), eqb-true s (2 ^ n * recordBytes) (and-l _ _ k), eqb-true d (2 ^ n) (and-r (eqb s (2 ^ n * recordBytes)) _ k))
 
 pub roomy-true : (most c w : ℕ) → roomy most c w ≡ true → (w ≤ widest) × (c < w) × (most ≤ 64 * c)
 unfolding roomy

@@ -5,6 +5,5 @@ pub mod Halves
 pub mod Asks
 pub mod Placing
 pub mod Fitting
-pub mod Counting
 pub mod Running
 pub mod Promise

@@ -1,5 +1,6 @@
 -- What the promise of `descend` comes to.
 --     misfit, over, found-all     its three cases, in the values that the code has by then
+--     allowed                     what the descent asks, where all fits
 --     only-one                    any two results that it allows are equal
 --     found-wide, found-sizes     each row that the model finds has w words; how many it finds
 --     found-equations             the equations, with r more, are 01's m
@@ -8,16 +9,19 @@ use mathlib.Core.Path.{_≡_, refl, sym, ap, ap₂, _∙_}
 use Prim.Native.Nat.{ℕ, _+_, _-_, _*_, _^_, _≤_, _<_}
 use native.Mathlib.Omega.{arith}
 use native.Mathlib.Nat.{zero-add}
-use mathlib.Core.Bool.{Bool, true, false}
+use mathlib.Core.Bool.{Bool, true, false, not}
 use mathlib.Core.List.{List, _++_, map, flatten}
 use lib.ListN.{length, replicate, length-map, length-set, length-replicate}
 use lib.Dec.{ltb}
-use borrow.Author.Tests.{lt-ltb, le-ltb, ltb-false}
+use borrow.Author.Tests.{lt-ltb, le-ltb, ltb-false, not-true, not-false}
 use Rattle.bits.specs.Vectors.{pick, ones}
 use Rattle.bits.specs.Rows.{Row, rows, Wide}
+use Rattle.bits.proofs.Tests.{and-l}
 use Rattle.bits.proofs.RowLaws.{length-⊻, rows-flatten, rows-front}
 use Rattle.meaning.specs.Sheet.{Rule, ruleAt, rules}
 use Rattle.meaning.specs.Open.{openAll, closedFrozen, unknowns, equations}
+use Rattle.counting.specs.Counting.{counting}
+use Rattle.counting.proofs.Lengths.{counting-all}
 use Rattle.model.specs.Model.{start, symbol, run}
 use Rattle.model.specs.Related.{Along, nil, cons, Bound}
 use Rattle.model.specs.Counted.{Counted}
@@ -33,21 +37,33 @@ use Rattle.descent.proofs.Fitting.{fitting-true}
 
 -- ---- its three cases
 
-module _ (n : ℕ) (sheet word : List ℕ) (most c w : ℕ) (vals us eqs : List ℕ) where
-  pub misfit : fitting n (length sheet) (length word) most c w (length vals) (length us) (length eqs) ≡ false
-      → descended Misfit vals us eqs ≡ descending n sheet word most c w vals us eqs
+module _ (n : ℕ) (sheet word : List ℕ) (most c w : ℕ) (vals us eqs : List ℕ) {t : Bool} (p : t ≡ fitting n (length sheet) (length word) most c w (length vals) (length us) (length eqs)) where
+  pub misfit : not t ≡ true → descended Misfit vals us eqs ≡ descending n sheet word most c w vals us eqs
   unfolding descending
-  misfit h = rw h
+  misfit h = rw (sym p ∙ not-true t h)
 
-  module _ (h : fitting n (length sheet) (length word) most c w (length vals) (length us) (length eqs) ≡ true) (g : ℕ) (e : g ≡ unknowns n (rules n sheet) word) where
+  module _ (h : not t ≡ false) (g : ℕ) (e : g ≡ counting n sheet word) where
+    fits : fitting n (length sheet) (length word) most c w (length vals) (length us) (length eqs) ≡ true
+    fits = sym p ∙ not-false t h
+
+    number : g ≡ unknowns n (rules n sheet) word
+    unfolding fitting
+    number = e ∙ counting-all n sheet word refl (and-l _ _ fits)
+
     pub over : most < g → descended (Over g) vals us eqs ≡ descending n sheet word most c w vals us eqs
     unfolding descending
-    over q = rw (h, ← e, lt-ltb most g q)
+    over q = rw (fits, ← number, lt-ltb most g q)
+
+    -- what the descent asks
+    pub allowed : g ≤ most → Ready n (length sheet) (length word) c w (length vals) (length us) (length eqs) × (unknowns n (rules n sheet) word ≤ 64 * c)
+    allowed q =
+        let (r, k) = fitting-true n (length sheet) (length word) most c w (length vals) (length us) (length eqs) fits in
+        (r, omega (arith, number))
 
     pub found-all : g ≤ most → (v u es : List ℕ) (m : ℕ) → Filled n w (found n sheet word c w) v u es m
         → descended (Done g m) v u es ≡ descending n sheet word most c w vals us eqs
     unfolding descending
-    found-all q v u es m f = rw (h, ← e, le-ltb most g q) (λ i. record { answer = Done g (f .many i); vals = f .vals i; us = f .us i; eqs = last i })
+    found-all q v u es m f = rw (fits, ← number, le-ltb most g q) (λ i. record { answer = Done g (f .many i); vals = f .vals i; us = f .us i; eqs = last i })
       where
         last : es ≡ flatten ((found n sheet word c w) .after .eqs) ++ replicate ((2 ^ n - length ((found n sheet word c w) .after .eqs)) * w) 0
         last = f .eqs ∙ ap (λ (k : ℕ). flatten ((found n sheet word c w) .after .eqs) ++ replicate ((2 ^ n - k) * w) 0) (f .many)

@@ -1,7 +1,6 @@
 -- The row of a rule, from the last position that a record can name down to the first, and the row of an unknown.
 --     Sum, sum-start, sum-hit, sum-miss, sum-all     the loop over the named positions
 --     rule-one, rule-zero, rule-wide                 the constant added
---     rule-free, rule-frozen                         the record's kind
 --     unknown-made                                   the row of an unknown
 use mathlib.Core.Path.{_≡_, refl, sym, ap, ap₂, _∙_}
 use Prim.Native.Nat.{ℕ, zero, suc, _+_, _-_, _*_, _/_, _%_, _^_, _≤_, _<_}
@@ -155,17 +154,6 @@ module _ (c w : ℕ) (us : List ℕ) (at : ℕ) (room : at * w ≤ length us) (s
     rule-zero b =
         e ∙ ap (λ (x : Row). paste d₀ to x w) (sym (nought-⊻ w sumRow named-wide))
         ∙ ap (λ (t : Bool). paste d₀ to (gate (rowValues c w) t (unitRow c w) ⊻ sumRow) w) (sym (ne-eqb (byte sheet at 1) 1 (λ z. b (ek ∙ z))))
-
--- ---- the record's kind
-
-module _ (sheet : List ℕ) (at k : ℕ) (e : k ≡ byte sheet at 0) where
-  pub rule-free : k ≡ 0 → ruleAt sheet at ≡ free
-  unfolding ruleAt
-  rule-free z = rw (eq-eqb (byte sheet at 0) 0 (sym e ∙ z)) refl
-
-  pub rule-frozen : (k ≡ 0 → ⊥) → ruleAt sheet at ≡ frozen (eqb (byte sheet at 1) 1) (mask sheet at)
-  unfolding ruleAt
-  rule-frozen z = rw (ne-eqb (byte sheet at 0) 0 (λ q. z (e ∙ q))) refl
 
 -- ---- the row of an unknown
 

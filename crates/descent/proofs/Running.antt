@@ -6,7 +6,6 @@ use mathlib.Core.Path.{_≡_, refl, sym, ap, ap₂, _∙_}
 use Prim.Native.Nat.{ℕ, zero, suc, _+_, _-_, _*_, _^_, _≤_, _<_}
 use native.Mathlib.Omega.{arith}
 use native.Mathlib.Nat.{zero-add, pow-suc, mul-le-mul-right, add-mul}
-use lib.Pow.{pow-mono}
 use mathlib.Core.List.{List, [], _∷_, _++_, map, append-assoc, append-nil, flatten}
 use mathlib.Core.Option.{Option, none, some}
 use lib.ListN.{length, take, drop, getD, replicate, length-append, length-replicate, drop-of-length-le}
@@ -15,9 +14,10 @@ use Rattle.bits.specs.Vectors.{tab}
 use Rattle.bits.specs.Rows.{Row, row, rows, zeroed}
 use Rattle.bits.proofs.Tests.{length-tab, tab-below}
 use Rattle.bits.proofs.RowLaws.{zeroed-fits, flatten-rows}
-use Rattle.meaning.specs.Limits.{largestN, recordBytes, maskBytes}
+use Rattle.meaning.specs.Limits.{recordBytes, maskBytes}
 use Rattle.meaning.specs.Sheet.{Rule, free, frozen, ruleAt, rules}
 use Rattle.meaning.specs.Open.{unknowns}
+use Rattle.counting.proofs.Lengths.{positions}
 use Rattle.model.specs.Model.{Values, Walk, Out, leftSyms, rightSyms, eqsAt, decode, symbol, run}
 use Rattle.model.proofs.Steps.{run-unknowns}
 use Rattle.descent.specs.Values.{rowValues}
@@ -89,8 +89,8 @@ module _ (c w n : ℕ) (sheet word : List ℕ) where
 
 module _ {n s d c w v u e : ℕ} (r : Ready n s d c w v u e) where
   pub ready-positions : d ≤ 128
-  unfolding largestN
-  ready-positions = omega (arith, r .symbols, pow-mono {i = n} {j = 7} (r .small))
+  unfolding maskBytes
+  ready-positions = positions n d (r .small) (r .symbols)
 
 module _ (n c w v u e : ℕ) (sheet word marks : List ℕ) (r : Ready n (length sheet) (length word) c w v u e) (few : unknowns n (rules n sheet) word ≤ 64 * c) (lm : length marks ≡ length word) where
   pub ready-ask : ((length word ≡ 2 ^ n) × (length marks ≡ length word) × (v ≡ length marks * w) × (length word * w ≤ u) × (c < w))

@@ -14,6 +14,7 @@ use Rattle.bits.specs.Rows.{Row}
 use Rattle.meaning.specs.Limits.{largestN, recordBytes}
 use Rattle.meaning.specs.Sheet.{ruleAt, rules}
 use Rattle.meaning.specs.Open.{unknowns}
+use Rattle.counting.specs.Counting.{shaped}
 use Rattle.model.specs.Model.{Out, run}
 use Rattle.descent.specs.Values.{rowValues}
 use Rattle.descent.specs.declared.Descent.{Descent}
@@ -23,10 +24,6 @@ use Rattle.descent.specs.declared.Descent.the-variants.{Misfit, Over, Do
 
 unfoldable pub widest : ℕ
 widest = 65536
-
--- the sheet has N records and the word N symbols
-unfoldable pub shaped : ℕ → ℕ → ℕ → Bool
-shaped n sheet word = leb n largestN && (eqb sheet (2 ^ n * recordBytes) && eqb word (2 ^ n))
 
 -- the c words of coefficients have a place for each unknown, and a word for the constant comes behind them
 unfoldable pub roomy : ℕ → ℕ → ℕ → Bool

@@ -2,8 +2,6 @@
 --     Values         rows as the decoder's values
 --     Descending     what `descend` promises
 --     Block          the steps of the descent
---     Counting       the count of the unknowns
 pub mod Values
 pub mod Descending
 pub mod Block
-pub mod Counting

@@ -3,7 +3,6 @@ ghost use mathlib.Core.Path.{_≡_};
 ghost use Rattle.descent.specs.Descending.{descended, descending};
 
 mod block;
-mod count;
 mod leaf;
 mod limits;
 mod record;
@@ -54,7 +53,7 @@ pub fn descend(
     ) {
         return Descent::Misfit;
     }
-    let g = count::unknowns(n, sheet, word);
+    let g = counting::unknowns(n, sheet, word);
     if most < g {
         return Descent::Over { g };
     }

@@ -11,7 +11,6 @@ ghost use Rattle.descent.specs.Block.{walkOf, outOf, PlaceOne, Prepared}
 ghost use Rattle.descent.specs.Descending.{found, Ready, Filled};
 use super::block;
 use super::leaf::Tally;
-use super::limits;
 use bits::rows;
 
 // Slot j gets the symbol s: 0, 1, or above for an erased one.
@@ -114,7 +113,7 @@ pub fn run(
     requires { ⌜ unknowns n (rules n (now sheet)) (now word) ≤ 64 * c ⌝ }
     ensures { λ r. ⌜ Filled n w (found n (now (sheet .entry)) (now (word .entry)) c w) (now (vals .exit)) (now (us .exit)) (now (eqs .exit)) r ⌝ }
 {
-    let mut marks: [u8; limits::POSITIONS] = [0; limits::POSITIONS];
+    let mut marks: [u8; counting::POSITIONS] = [0; counting::POSITIONS];
     let size = word.len();
     decode_all(n, sheet, word, c, w, vals, &mut marks[..size], us, eqs)
 }

@@ -8,7 +8,8 @@ use lib.Seq.{length-take-le}
 use Rattle.meaning.specs.Limits.{maskBytes, recordBytes}
 use Rattle.meaning.proofs.Divide.{R}
 use Rattle.model.specs.Model.{decode}
-use Rattle.descent.proofs.Asks.{halves, back, from-length, leaf-ask, leaf-back, ask-left, ask-right, done}
+use Rattle.counting.proofs.Parts.{back, from-length}
+use Rattle.descent.proofs.Asks.{halves, leaf-ask, leaf-back, ask-left, ask-right, done}
 use borrow.Fn.Kinds.{In}
 use borrow.Fn.PlainCycle.{Measures, is, falls, and}
 use Rattle.descent.proofs.block.decode.Reads as decode

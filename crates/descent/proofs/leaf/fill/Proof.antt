@@ -6,7 +6,8 @@ use Rattle.bits.specs.Rows.{rows}
 use Rattle.meaning.specs.Limits.{maskBytes, recordBytes}
 use Rattle.meaning.specs.Sheet.{byte, mask, ruleAt}
 use Rattle.descent.proofs.Leaves.{fill-free, fill-frozen, next-free}
-use Rattle.descent.proofs.Rules.{rule-wide, rule-free, rule-frozen}
+use Rattle.counting.proofs.Counting.{rule-free, rule-frozen}
+use Rattle.descent.proofs.Rules.{rule-wide}
 use Rattle.descent.proofs.leaf.fill.Statement.{statement}
 use Rattle.descent.proofs.leaf.fill.Tie as tie
 

@@ -7,7 +7,8 @@ use Rattle.bits.specs.Rows.{rows}
 use Rattle.meaning.specs.Limits.{maskBytes, recordBytes}
 use Rattle.meaning.specs.Sheet.{byte, mask, ruleAt}
 use Rattle.descent.proofs.Leaves.{hold-free, hold-room, few, hold-frozen}
-use Rattle.descent.proofs.Rules.{rule-wide, rule-free, rule-frozen}
+use Rattle.counting.proofs.Counting.{rule-free, rule-frozen}
+use Rattle.descent.proofs.Rules.{rule-wide}
 use Rattle.descent.proofs.Running.{room}
 use Rattle.descent.proofs.leaf.hold.Statement.{statement}
 use Rattle.descent.proofs.leaf.hold.Tie as tie

@@ -5,21 +5,18 @@ use Rattle.descent.proofs.Fitting.{whole-fits, filled-vals, filled-us, 
 use Rattle.descent.proofs.limits.filled.Statement.{statement}
 use Rattle.descent.proofs.limits.filled.Tie as tie
 
-size-of-requires : tie.Need-size-of-requires
-size-of-requires c κs = c .pre .0
-
 mul-whole : tie.Need-mul-whole
 unfolding largestN widest
-mul-whole c = whole-fits _ _ _ (c .before .pre .0) (c .before .pre .1) (c .size-of .ensures)
+mul-whole c = whole-fits _ _ _ (c .pre .0) (c .pre .2) (c .pre .1)
 
 returns : tie.Need-returns
-returns c = sym (filled-vals _ _ _ _ _ _ (c .before .size-of .ensures) (c .if1 .taken))
+returns c = sym (filled-vals _ _ _ _ _ _ (c .before .pre .1) (c .if1 .taken))
 
 returns-2 : tie.Need-returns-2
-returns-2 c = sym (filled-us _ _ _ _ _ _ (c .before .before .size-of .ensures) (c .before .if1 .left) (c .if2 .taken))
+returns-2 c = sym (filled-us _ _ _ _ _ _ (c .before .before .pre .1) (c .before .if1 .left) (c .if2 .taken))
 
 returns-3 : tie.Need-returns-3
-returns-3 c = sym (filled-eqs _ _ _ _ _ _ (c .before .before .size-of .ensures) (c .before .if1 .left) (c .if2 .left))
+returns-3 c = sym (filled-eqs _ _ _ _ _ _ (c .before .before .pre .1) (c .before .if1 .left) (c .if2 .left))
 
 pub filled-spec : {M : Type 1} → statement M
-filled-spec = tie.close (tie.spec size-of-requires mul-whole returns returns-2 returns-3)
+filled-spec = tie.close (tie.spec mul-whole returns returns-2 returns-3)

@@ -1,7 +1,8 @@
 use mathlib.Core.Path.{sym, _∙_}
 use borrow.Author.Needs.{needs}
 use borrow.Author.Tests.{not-false}
-use Rattle.descent.proofs.Fitting.{fitting-shaped, fitting-roomy, fitting-filled, shaped-true, roomy-true}
+use Rattle.counting.proofs.Lengths.{shaped-true}
+use Rattle.descent.proofs.Fitting.{fitting-shaped, fitting-roomy, fitting-filled, roomy-true}
 use Rattle.descent.proofs.limits.fits.Statement.{statement}
 use Rattle.descent.proofs.limits.fits.Tie as tie
 
@@ -22,7 +23,8 @@ filled-requires : tie.Need-filled-requires
 filled-requires c κs =
     let s = sym (c .before .before .before .shaped .ensures) ∙ not-false _ (c .before .before .if1 .left) in
     let r = sym (c .before .roomy .ensures) ∙ not-false _ (c .if2 .left) in
-    (shaped-true _ _ _ s .0, roomy-true _ _ _ r .0)
+    let (a, _, b) = shaped-true _ _ _ s in
+    (a, b, roomy-true _ _ _ r .0)
 
 returns-3 : tie.Need-returns-3
 returns-3 c =

@@ -1,9 +1,9 @@
 use mathlib.Core.Path.{ap, _∙_}
 use native.Mathlib.Nat.{zero-add}
-use Rattle.descent.specs.Counting.{openFrees}
-use Rattle.descent.proofs.Counting.{counts-word}
-use Rattle.descent.proofs.count.count.Statement.{statement}
-use Rattle.descent.proofs.count.count.Tie as tie
+use Rattle.counting.specs.Halves.{openFrees}
+use Rattle.counting.proofs.Counting.{counts-word}
+use Rattle.counting.proofs.count.Statement.{statement}
+use Rattle.counting.proofs.count.Tie as tie
 
 load-requires : tie.Need-load-requires
 load-requires c κs = c .before .before .before .before .pre .0

@@ -1,8 +1,8 @@
 use native.Mathlib.Omega.{arith}
 use Rattle.meaning.specs.Limits.{largestN}
-use Rattle.descent.proofs.Fitting.{size-made}
-use Rattle.descent.proofs.limits.size_of.Statement.{statement}
-use Rattle.descent.proofs.limits.size_of.Tie as tie
+use Rattle.counting.proofs.Lengths.{size-made}
+use Rattle.counting.proofs.size_of.Statement.{statement}
+use Rattle.counting.proofs.size_of.Tie as tie
 
 shl-result : tie.Need-shl-result
 unfolding largestN

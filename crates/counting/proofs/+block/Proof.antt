@@ -6,18 +6,18 @@ use lib.Seq.{length-take-le}
 use borrow.Author.Needs.{needs}
 use Rattle.meaning.specs.Limits.{maskBytes, recordBytes}
 use Rattle.meaning.proofs.Divide.{R}
-use Rattle.descent.specs.Counting.{openFrees}
-use Rattle.descent.proofs.Asks.{half-of, from-back}
-use Rattle.descent.proofs.Counting.{counts-one, counts-most, counts-halves}
+use Rattle.counting.specs.Halves.{openFrees}
+use Rattle.counting.proofs.Parts.{half-of, from-back}
+use Rattle.counting.proofs.Counting.{counts-one, counts-most, counts-halves}
 use borrow.Fn.Kinds.{In}
 use borrow.Fn.PlainCycle.{Measures, is, falls, and}
-use Rattle.descent.proofs.count.block.Reads as block
-use Rattle.descent.proofs.count.block.Kinds as block-kinds
-use Rattle.descent.proofs.count.+block.Lts-block as block-lts
-use Rattle.descent.proofs.count.one.Reads as one-reads
-use Rattle.descent.proofs.count.spread.Reads as spread-reads
-use Rattle.descent.proofs.count.+block.{statement}
-use Rattle.descent.proofs.count.+block.Tie.{close}
+use Rattle.counting.proofs.block.Reads as block
+use Rattle.counting.proofs.block.Kinds as block-kinds
+use Rattle.counting.proofs.+block.Lts-block as block-lts
+use Rattle.counting.proofs.one.Reads as one-reads
+use Rattle.counting.proofs.spread.Reads as spread-reads
+use Rattle.counting.proofs.+block.{statement}
+use Rattle.counting.proofs.+block.Tie.{close}
 
 abbrev μ-block : Measures 2 block-kinds.ps ℕ
 μ-block κs a = a .1 .1 .1 .0

@@ -1,13 +1,47 @@
-// The number of unknowns, from what is erased alone: the open free positions, by halves. A symbol above 1 is erased.
+// The number of unknowns of a word, from what is erased alone: its open free positions, by halves. A symbol above 1 is
+// erased. Also the numbers that a sheet and a word are laid out by, and the test of their lengths.
 ghost use mathlib.Core.Path.{_≡_};
 ghost use Prim.Native.Nat.{_+_, _*_, _^_, _≤_, _<_};
 ghost use lib.ListN.{length};
-ghost use Rattle.meaning.specs.Limits.{recordBytes, maskBytes};
+ghost use Rattle.meaning.specs.Limits.{largestN, recordBytes, maskBytes};
 ghost use Rattle.meaning.specs.Sheet.{ruleAt, rules};
 ghost use Rattle.meaning.specs.Open.{unknowns};
-ghost use Rattle.descent.specs.Counting.{SpreadOne, Spread, openOne, openFrees};
-use super::limits;
-use super::record;
+ghost use Rattle.counting.specs.Counting.{shaped, counting};
+ghost use Rattle.counting.specs.Halves.{SpreadOne, Spread, openOne, openFrees};
+
+// N = 2 to the n positions, n up to this.
+const LARGEST_N: usize = 7;
+
+// Bytes of a record's mask.
+const MASK: usize = 16;
+
+// Bytes of a record.
+pub const RECORD: usize = 4 + MASK;
+
+// The most positions: one for each bit of a mask.
+pub const POSITIONS: usize = 8 * MASK;
+
+// N, 2 to the n.
+fn size_of(n: usize) -> usize
+    requires { ⌜ n ≤ largestN ⌝ }
+    ensures { λ r. ⌜ r ≡ 2 ^ n ⌝ }
+{
+    1 << n
+}
+
+// Whether a sheet and a word of these lengths have N records and N symbols, n at most 7.
+pub fn shaped(n: usize, sheet: usize, word: usize) -> bool
+    ensures { λ r. ⌜ r ≡ shaped n sheet word ⌝ }
+{
+    if LARGEST_N < n {
+        return false;
+    }
+    let size = size_of(n);
+    if sheet != size * RECORD {
+        return false;
+    }
+    word == size
+}
 
 // Symbols j and h + j change places where the right one is larger: the left one is then erased where one of them was, and
 // the right one where both were.
@@ -41,7 +75,7 @@ fn one(sheet: &[u8], at: usize, s: u8) -> usize
     requires { ⌜ (at + 1) * recordBytes ≤ length (now sheet) ⌝ }
     ensures { λ r. ⌜ r ≡ openOne (ruleAt (now (sheet .entry)) at) s ⌝ }
 {
-    if record::byte_at(sheet, at, 0) != 0 {
+    if sheet[at * RECORD] != 0 {
         return 0;
     }
     if s > 1 { 1 } else { 0 }
@@ -84,12 +118,24 @@ fn count(marks: &mut [u8], sheet: &[u8], word: &[u8], n: usize) -> usize
     block(marks, sheet, 0, n)
 }
 
-// The unknowns of a word.
-pub fn unknowns(n: usize, sheet: &[u8], word: &[u8]) -> usize
+// The unknowns of a word that has N symbols, under a sheet of N records.
+fn within(n: usize, sheet: &[u8], word: &[u8]) -> usize
     requires { ⌜ (length (now word) ≡ 2 ^ n) × (length (now word) ≤ 8 * maskBytes) × (length (now word) * recordBytes ≤ length (now sheet)) ⌝ }
     ensures { λ r. ⌜ r ≡ unknowns n (rules n (now (sheet .entry))) (now (word .entry)) ⌝ }
 {
-    let mut marks: [u8; limits::POSITIONS] = [0; limits::POSITIONS];
+    let mut marks: [u8; POSITIONS] = [0; POSITIONS];
     let size = word.len();
     count(&mut marks[..size], sheet, word, n)
+}
+
+// The number of unknowns g of a word of N = 2 to the n symbols (0, 1, above 1 erased) under the rules of a sheet of N
+// records: its open free positions, from what is erased alone. 0 where n is above 7, or where the sheet or the word has not
+// the length that n asks for.
+pub fn unknowns(n: usize, sheet: &[u8], word: &[u8]) -> usize
+    ensures { λ r. ⌜ r ≡ counting n (now (sheet .entry)) (now (word .entry)) ⌝ }
+{
+    if !shaped(n, sheet.len(), word.len()) {
+        return 0;
+    }
+    within(n, sheet, word)
 }

@@ -1,32 +1,32 @@
 -- The count of the unknowns by halves.
 --     spread-swapped, spread-kept            two slots h apart
 --     spread-start, spread-turn, spread-end  the loop over both halves
+--     rule-free, rule-frozen, first-byte     a record's kind, by its first byte
 --     one-.., counts-one, counts-halves      the count of one position, and of a block by its halves
 --     counts-most                            no more than positions
 --     counts-word                            of a whole word it is the number of unknowns
 --     load-turn, load-end                    a word copied symbol by symbol
 use mathlib.Core.Path.{_≡_, refl, sym, ap, ap₂, _∙_}
 use mathlib.Core.Logic.{_⊎_, inl, inr}
-use Prim.Native.Nat.{ℕ, zero, suc, _+_, _^_, _≤_, _<_}
+use Prim.Native.Nat.{ℕ, zero, suc, _+_, _*_, _^_, _≤_, _<_}
 use native.Mathlib.Omega.{arith}
-use native.Mathlib.Nat.{add-zero, add-assoc, eq-or-lt-of-le}
+use native.Mathlib.Nat.{zero-add, add-zero, eq-or-lt-of-le}
 use native.Mathlib.Numerals.{add-one}
 use mathlib.Core.Bool.{Bool, true, false, _&&_, _||_}
 use mathlib.Core.List.{List, [], _∷_, _++_, map, map-append}
 use lib.ListN.{length, take, drop, set, getD, length-set, length-take, length-drop, length-map, take-append-drop}
 use lib.Seq.{getD-set-same, getD-set-other, getD-take, getD-drop, length-take-le, take-all, take-suc-set, take-suc}
+use lib.Dec.{eqb}
 use borrow.Author.Tests.{eq-eqb, ne-eqb}
 use Rattle.bits.specs.Vectors.{bit, tab, ones}
-use Rattle.bits.proofs.Tests.{count-append, count-le, length-tab, tab-below, tab-append}
-use Rattle.meaning.specs.Sheet.{Rule, free, frozen, byte, ruleAt, rules}
+use Rattle.bits.proofs.Tests.{count-append, count-le, length-tab, tab-below, tab-ext, tab-append}
+use Rattle.meaning.specs.Limits.{recordBytes}
+use Rattle.meaning.specs.Sheet.{Rule, free, frozen, byte, mask, ruleAt, rules}
 use Rattle.meaning.specs.Codewords.{erased}
 use Rattle.meaning.specs.Open.{either, both, opens, openFree, openAll, unknowns}
 use Rattle.meaning.proofs.Open.{opens-append, length-opens, open-list}
 use Rattle.meaning.proofs.Gap.{length-openFree}
-use Rattle.model.specs.Counted.{rulesFrom}
-use Rattle.model.proofs.AtBits.{rules-start}
-use Rattle.descent.specs.Counting.{lostAt, SpreadOne, Spread, openOne, openFrees}
-use Rattle.descent.proofs.Rules.{rule-free, rule-frozen}
+use Rattle.counting.specs.Halves.{lostAt, SpreadOne, Spread, rulesFrom, openOne, openFrees}
 
 -- ---- two slots
 
@@ -145,7 +145,7 @@ counts-one sheet at k (a ∷ []) z l = rw (z, add-zero at) (go (ruleAt sheet at)
 pub counts-most : (sheet : List ℕ) (at k : ℕ) (m : List ℕ) → length m ≡ 2 ^ k → openFrees sheet at k m ≤ length m
 unfolding openFrees
 counts-most sheet at k m l =
-    let ks = rulesFrom (ruleAt sheet) at (length m) in
+    let ks = rulesFrom sheet at (length m) in
     let o = opens k (map erased m) in
     let lo : length o ≡ 2 ^ k = length-opens k (map erased m) (length-map m erased ∙ l) in
     let lk : length ks ≡ length m = length-tab (length m) (λ (j : ℕ). ruleAt sheet (at + j)) in
@@ -174,7 +174,7 @@ module _ (sheet : List ℕ) (at k h : ℕ) (m m₁ : List ℕ) (eh : h ≡ 2 ^ k
       ∙ tab-below h (lostAt (drop h m₁)) (λ (j : ℕ). lostAt m j && lostAt m (h + j)) (λ j p. ap erased (getD-drop h m₁ j 0) ∙ spread .right j p)
       ∙ sym (both-tab h (lostAt m) (λ (j : ℕ). lostAt m (h + j)))
 
-  rules-is : rulesFrom (ruleAt sheet) at (length m) ≡ rulesFrom (ruleAt sheet) at (length (take h m₁)) ++ rulesFrom (ruleAt sheet) (at + h) (length (drop h m₁))
+  rules-is : rulesFrom sheet at (length m) ≡ rulesFrom sheet at (length (take h m₁)) ++ rulesFrom sheet (at + h) (length (drop h m₁))
   rules-is =
       let rule : ℕ → Rule = λ j. ruleAt sheet (at + j) in
       ap (λ (n : ℕ). tab n rule) lm ∙ tab-append h h rule
@@ -189,8 +189,8 @@ module _ (sheet : List ℕ) (at k h : ℕ) (m m₁ : List ℕ) (eh : h ≡ 2 ^ k
       let r = tab h (λ (j : ℕ). lostAt m (h + j)) in
       let a = map erased (take h m₁) in
       let b = map erased (drop h m₁) in
-      let ks = rulesFrom (ruleAt sheet) at (length (take h m₁)) in
-      let ls = rulesFrom (ruleAt sheet) (at + h) (length (drop h m₁)) in
+      let ks = rulesFrom sheet at (length (take h m₁)) in
+      let ls = rulesFrom sheet (at + h) (length (drop h m₁)) in
       let o : opens (suc k) (map erased m) ≡ opens k a ++ opens k b =
       ap (opens (suc k)) all-is ∙ opens-append k l r (length-tab h (lostAt m) ∙ eh) ∙ ap₂ (λ (x y : List Bool). opens k x ++ opens k y) (sym left-is) (sym right-is) in
       let n : length ks ≡ length (opens k a) =
@@ -202,9 +202,22 @@ module _ (sheet : List ℕ) (at k h : ℕ) (m m₁ : List ℕ) (eh : h ≡ 2 ^ k
 pub counts-word : (sheet word : List ℕ) (n : ℕ) → length word ≡ 2 ^ n → openFrees sheet 0 n word ≡ unknowns n (rules n sheet) word
 unfolding openFrees unknowns openAll rules
 counts-word sheet word n l =
-    ap₂ (λ (x : List Rule) (y : List Bool). ones (openFree x y)) (ap (rulesFrom (ruleAt sheet) 0) l ∙ rules-start (ruleAt sheet) (2 ^ n)) (sym (open-list n (map erased word) (length-map word erased ∙ l)))
+    ap₂ (λ (x : List Rule) (y : List Bool). ones (openFree x y)) (ap (rulesFrom sheet 0) l ∙ tab-ext (2 ^ n) (λ (j : ℕ). ruleAt sheet (0 + j)) (ruleAt sheet) (λ j. ap (ruleAt sheet) (zero-add j))) (sym (open-list n (map erased word) (length-map word erased ∙ l)))
 
 -- ---- one position, by its record
+
+module _ (sheet : List ℕ) (at k : ℕ) (e : k ≡ byte sheet at 0) where
+  pub rule-free : k ≡ 0 → ruleAt sheet at ≡ free
+  unfolding ruleAt
+  rule-free z = rw (eq-eqb (byte sheet at 0) 0 (sym e ∙ z)) refl
+
+  pub rule-frozen : (k ≡ 0 → ⊥) → ruleAt sheet at ≡ frozen (eqb (byte sheet at 1) 1) (mask sheet at)
+  unfolding ruleAt
+  rule-frozen z = rw (ne-eqb (byte sheet at 0) 0 (λ q. z (e ∙ q))) refl
+
+-- its first byte, as the code reads it
+pub first-byte : (sheet : List ℕ) (at : ℕ) → getD sheet (at * recordBytes) 0 ≡ byte sheet at 0
+first-byte sheet at = ap (λ (i : ℕ). getD sheet i 0) (sym (add-zero (at * recordBytes)))
 
 module _ (sheet : List ℕ) (at k s : ℕ) (e : k ≡ byte sheet at 0) where
   pub one-frozen : (k ≡ 0 → ⊥) → 0 ≡ openOne (ruleAt sheet at) s

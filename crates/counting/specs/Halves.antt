@@ -1,16 +1,16 @@
 -- The count of the unknowns by halves, on the symbols of a word: above 1 means erased.
 --     SpreadOne, Spread     what is erased for two slots h apart, and for both halves: m before, m′ after
+--     rulesFrom             the rules of the m positions from `at` on
 --     openOne, openFrees    how many open free positions one position has, and a block whose first position is `at`
 use mathlib.Core.Path.{_≡_}
 use Prim.Native.Nat.{ℕ, _+_, _<_}
 use mathlib.Core.Bool.{Bool, _&&_, _||_}
 use mathlib.Core.List.{List, map}
 use lib.ListN.{length, getD}
-use Rattle.bits.specs.Vectors.{bit, ones}
+use Rattle.bits.specs.Vectors.{bit, tab, ones}
 use Rattle.meaning.specs.Sheet.{Rule, free, frozen, ruleAt}
 use Rattle.meaning.specs.Codewords.{erased}
 use Rattle.meaning.specs.Open.{opens, openFree}
-use Rattle.model.specs.Counted.{rulesFrom}
 
 abbrev pub lostAt : List ℕ → ℕ → Bool
 lostAt m j = erased (getD m j 0)
@@ -29,5 +29,8 @@ abbrev pub openOne : Rule → ℕ → ℕ
 openOne free s = bit (erased s)
 openOne (frozen b m) s = 0
 
+abbrev pub rulesFrom : List ℕ → ℕ → ℕ → List Rule
+rulesFrom sheet at m = tab m (λ (j : ℕ). ruleAt sheet (at + j))
+
 unfoldable pub openFrees : List ℕ → ℕ → ℕ → List ℕ → ℕ
-openFrees sheet at k marks = ones (openFree (rulesFrom (ruleAt sheet) at (length marks)) (opens k (map erased marks)))
+openFrees sheet at k marks = ones (openFree (rulesFrom sheet at (length marks)) (opens k (map erased marks)))

@@ -2,9 +2,9 @@ use mathlib.Core.Path.{_≡_, refl, _∙_}
 use Prim.Native.Nat.{_-_, _≤_}
 use native.Mathlib.Omega.{arith}
 use lib.ListN.{length}
-use Rattle.descent.proofs.Counting.{SpreadUpTo, spread-start, spread-turn, spread-end}
-use Rattle.descent.proofs.count.spread.Statement.{statement}
-use Rattle.descent.proofs.count.spread.Tie as tie
+use Rattle.counting.proofs.Counting.{SpreadUpTo, spread-start, spread-turn, spread-end}
+use Rattle.counting.proofs.spread.Statement.{statement}
+use Rattle.counting.proofs.spread.Tie as tie
 
 abbrev Inv-loop : tie.InvT-loop
 Inv-loop marks₀ h j₀ marks j = (j ≤ h) × (length marks ≡ length marks₀) × SpreadUpTo h j marks₀ marks

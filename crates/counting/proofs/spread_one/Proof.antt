@@ -1,8 +1,8 @@
 use native.Mathlib.Omega.{arith}
 use lib.ListN.{length-set}
-use Rattle.descent.proofs.Counting.{spread-swapped, spread-kept}
-use Rattle.descent.proofs.count.spread_one.Statement.{statement}
-use Rattle.descent.proofs.count.spread_one.Tie as tie
+use Rattle.counting.proofs.Counting.{spread-swapped, spread-kept}
+use Rattle.counting.proofs.spread_one.Statement.{statement}
+use Rattle.counting.proofs.spread_one.Tie as tie
 
 add-i : tie.Need-add-i
 add-i c = omega arith

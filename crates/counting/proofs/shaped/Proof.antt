@@ -2,9 +2,9 @@ use mathlib.Core.Path.{sym}
 use native.Mathlib.Omega.{arith}
 use lib.Pow.{pow-mono}
 use Rattle.meaning.specs.Limits.{largestN, maskBytes, recordBytes}
-use Rattle.descent.proofs.Fitting.{shaped-large, shaped-sheet, shaped-word}
-use Rattle.descent.proofs.limits.shaped.Statement.{statement}
-use Rattle.descent.proofs.limits.shaped.Tie as tie
+use Rattle.counting.proofs.Lengths.{shaped-large, shaped-sheet, shaped-word}
+use Rattle.counting.proofs.shaped.Statement.{statement}
+use Rattle.counting.proofs.shaped.Tie as tie
 
 returns : tie.Need-returns
 unfolding largestN

@@ -2,9 +2,9 @@ use mathlib.Core.Path.{_≡_, refl, sym, _∙_}
 use Prim.Native.Nat.{_-_}
 use native.Mathlib.Omega.{arith}
 use lib.ListN.{length, take, length-set}
-use Rattle.descent.proofs.Counting.{load-turn, load-end}
-use Rattle.descent.proofs.count.load.Statement.{statement}
-use Rattle.descent.proofs.count.load.Tie as tie
+use Rattle.counting.proofs.Counting.{load-turn, load-end}
+use Rattle.counting.proofs.load.Statement.{statement}
+use Rattle.counting.proofs.load.Tie as tie
 
 abbrev Inv-loop : tie.InvT-loop
 Inv-loop marks₀ word j₀ marks j = (length marks ≡ length word) × (take j marks ≡ take j word)

@@ -1,8 +1,8 @@
 use mathlib.Core.Path.{sym}
 use lib.Seq.{length-take-le}
 use Rattle.meaning.specs.Limits.{maskBytes}
-use Rattle.descent.proofs.count.unknowns.Statement.{statement}
-use Rattle.descent.proofs.count.unknowns.Tie as tie
+use Rattle.counting.proofs.within.Statement.{statement}
+use Rattle.counting.proofs.within.Tie as tie
 
 array-borrow-prefix-marks : tie.Need-array-borrow-prefix-marks
 unfolding maskBytes
@@ -21,6 +21,6 @@ count-requires c κs =
 returns : tie.Need-returns
 returns c = c .before .count .ensures
 
-pub unknowns-spec : {M : Type 1} → statement M
-unknowns-spec =
+pub within-spec : {M : Type 1} → statement M
+within-spec =
     tie.close (tie.spec array-borrow-prefix-marks slice-aggregate-count count-requires returns)

@@ -1,0 +1,5 @@
+-- What the count of the unknowns promises, and the steps by which it is proved.
+--     Counting     what `shaped` and `unknowns` promise
+--     Halves       the steps of the count
+pub mod Counting
+pub mod Halves
