@@ -24,7 +24,7 @@ use Rattle.meaning.specs.Limits.{leads}
 use Rattle.meaning.specs.Sheet.{Rule, free, ruleAt, byte}
 use Rattle.meaning.specs.Check.{poly, terms}
 use Rattle.model.specs.Model.{freeOf, sums, scaled, shiftOf, restOf, checks}
-use Rattle.descent.proofs.Rules.{rule-free, rule-frozen}
+use Rattle.counting.proofs.Counting.{rule-free, rule-frozen}
 use Rattle.checks.specs.Registers.{wordValues, column, tapsOf, moved, fedAt, fed, fedAll, remainder}
 
 -- ---- the polynomial

@@ -1,6 +1,6 @@
 use native.Mathlib.Omega.{arith}
 use Rattle.meaning.specs.Limits.{largestN}
-use Rattle.descent.proofs.Fitting.{size-made}
+use Rattle.counting.proofs.Lengths.{size-made}
 use Rattle.checks.proofs.limits.size_of.Statement.{statement}
 use Rattle.checks.proofs.limits.size_of.Tie as tie
 
