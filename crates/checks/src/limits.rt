@@ -5,12 +5,6 @@ ghost use Rattle.meaning.specs.Limits.{largestN};
 ghost use Rattle.descent.specs.Descending.{widest};
 ghost use Rattle.checks.specs.Checking.{recorded, checkLength, spaced, checkFits};
 
-// N = 2 to the n positions, n up to this.
-const LARGEST_N: usize = 7;
-
-// Bytes of a record.
-pub const RECORD: usize = 20;
-
 // The longest check.
 pub const LONGEST: usize = 11;
 
@@ -29,10 +23,10 @@ pub fn size_of(n: usize) -> usize
 fn recorded(n: usize, sheet: usize) -> bool
     ensures { λ t. ⌜ t ≡ recorded n sheet ⌝ }
 {
-    if LARGEST_N < n {
+    if counting::LARGEST_N < n {
         return false;
     }
-    sheet == size_of(n) * RECORD
+    sheet == size_of(n) * counting::RECORD
 }
 
 // Whether there is a check of length r.

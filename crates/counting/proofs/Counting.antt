@@ -1,6 +1,7 @@
 -- The count of the unknowns by halves.
 --     spread-swapped, spread-kept            two slots h apart
 --     spread-start, spread-turn, spread-end  the loop over both halves
+--     map-tab                                a list by place
 --     rule-free, rule-frozen, first-byte     a record's kind, by its first byte
 --     one-.., counts-one, counts-halves      the count of one position, and of a block by its halves
 --     counts-most                            no more than positions
@@ -111,9 +112,9 @@ spread-end p u = record { left = λ i q. u .lefts i (omega arith); right = λ i 
 
 -- ---- lists by place
 
-lost-tab : (l : List ℕ) → map erased l ≡ tab (length l) (lostAt l)
-lost-tab [] = refl
-lost-tab (a ∷ l) = ap {B = List Bool} (λ (r : List Bool). erased a ∷ r) (lost-tab l)
+pub map-tab : {A B : Type 0} (f : A → B) (d : A) (l : List A) → map f l ≡ tab (length l) (λ (j : ℕ). f (getD l j d))
+map-tab f d [] = refl
+map-tab {B = B} f d (a ∷ l) = ap {B = List B} (λ (r : List B). f a ∷ r) (map-tab f d l)
 
 either-tab : (n : ℕ) (f g : ℕ → Bool) → either (tab n f) (tab n g) ≡ tab n (λ (i : ℕ). f i || g i)
 either-tab zero f g = refl
@@ -160,17 +161,17 @@ module _ (sheet : List ℕ) (at k h : ℕ) (m m₁ : List ℕ) (eh : h ≡ 2 ^ k
   len-right = length-drop h m₁ ∙ omega arith
 
   all-is : map erased m ≡ tab h (lostAt m) ++ tab h (λ (j : ℕ). lostAt m (h + j))
-  all-is = lost-tab m ∙ ap (λ (n : ℕ). tab n (lostAt m)) lm ∙ tab-append h h (lostAt m)
+  all-is = map-tab erased 0 m ∙ ap (λ (n : ℕ). tab n (lostAt m)) lm ∙ tab-append h h (lostAt m)
 
   left-is : map erased (take h m₁) ≡ either (tab h (lostAt m)) (tab h (λ (j : ℕ). lostAt m (h + j)))
   left-is =
-      lost-tab (take h m₁) ∙ ap (λ (n : ℕ). tab n (lostAt (take h m₁))) len-left
+      map-tab erased 0 (take h m₁) ∙ ap (λ (n : ℕ). tab n (lostAt (take h m₁))) len-left
       ∙ tab-below h (lostAt (take h m₁)) (λ (j : ℕ). lostAt m j || lostAt m (h + j)) (λ j p. ap erased (getD-take h m₁ j 0 p) ∙ spread .left j p)
       ∙ sym (either-tab h (lostAt m) (λ (j : ℕ). lostAt m (h + j)))
 
   right-is : map erased (drop h m₁) ≡ both (tab h (lostAt m)) (tab h (λ (j : ℕ). lostAt m (h + j)))
   right-is =
-      lost-tab (drop h m₁) ∙ ap (λ (n : ℕ). tab n (lostAt (drop h m₁))) len-right
+      map-tab erased 0 (drop h m₁) ∙ ap (λ (n : ℕ). tab n (lostAt (drop h m₁))) len-right
       ∙ tab-below h (lostAt (drop h m₁)) (λ (j : ℕ). lostAt m j && lostAt m (h + j)) (λ j p. ap erased (getD-drop h m₁ j 0) ∙ spread .right j p)
       ∙ sym (both-tab h (lostAt m) (λ (j : ℕ). lostAt m (h + j)))
 

@@ -10,7 +10,7 @@ ghost use Rattle.counting.specs.Counting.{shaped, counting};
 ghost use Rattle.counting.specs.Halves.{SpreadOne, Spread, openOne, openFrees};
 
 // N = 2 to the n positions, n up to this.
-const LARGEST_N: usize = 7;
+pub const LARGEST_N: usize = 7;
 
 // Bytes of a record's mask.
 const MASK: usize = 16;

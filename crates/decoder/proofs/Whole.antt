@@ -2,15 +2,15 @@
 --     whole-word        decodes to unique, itself in all three strips
 --     encode-decode     what encode wrote, decode gives back: of any results that the two promises allow
 use mathlib.Core.Path.{_≡_, refl, sym, ap, ap₂, _∙_}
-use Prim.Native.Nat.{ℕ, zero, suc, _+_, _-_, _*_, _^_, _≤_}
+use Prim.Native.Nat.{ℕ, _+_, _-_, _*_, _^_, _≤_}
 use native.Mathlib.Omega.{arith}
 use mathlib.Core.Bool.{Bool, true, false, _&&_, not}
 use mathlib.Core.List.{List, [], _∷_, _++_, map}
 use lib.ListN.{length, take, drop, length-map}
 use lib.Seq.{take-at}
 use lib.Dec.{ltb}
-use borrow.Author.Tests.{eq-eqb, le-ltb}
-use Rattle.bits.specs.Vectors.{bit, pick, keep, tab, ones, firstPlace}
+use borrow.Author.Tests.{le-ltb}
+use Rattle.bits.specs.Vectors.{bit, pick, keep, tab, ones}
 use Rattle.meaning.specs.Limits.{largestCeiling}
 use Rattle.meaning.specs.Transform.{polar}
 use Rattle.meaning.specs.Sheet.{Rule, rules, frees}
@@ -26,16 +26,11 @@ use Rattle.meaning.proofs.Polar.{length-polar, polar-polar}
 use Rattle.meaning.proofs.Sound.{length-rules}
 use Rattle.meaning.proofs.Gap.{g-le-erased}
 use Rattle.meaning.proofs.Encode.{encoded-keeps}
-use Rattle.meaning.proofs.Refusals.{none-append, done-none}
+use Rattle.meaning.proofs.Refusals.{none-append}
 use Rattle.meaning.proofs.Forms.{good, worded}
-use Rattle.meaning.proofs.ReadBack.{whole, encode-is}
+use Rattle.meaning.proofs.ReadBack.{whole, encode-is, word-none, encoded-none}
 use Rattle.decoder.specs.Deciding.{deciding}
 use Rattle.decoder.proofs.Deciding.{decode-formed}
-
-no-symbol : (x : List Bool) → firstPlace (ltb 2) (map bit x) ≡ length (map bit x)
-no-symbol [] = refl
-no-symbol (true ∷ x) = ap suc (no-symbol x)
-no-symbol (false ∷ x) = ap suc (no-symbol x)
 
 none-erased : (x : List Bool) → ones (map erased (map bit x)) ≡ 0
 none-erased [] = refl
@@ -57,8 +52,7 @@ module _ (n : ℕ) (s : List ℕ) (r c : ℕ) (out : List ℕ) (x : List Bool) (
   m = equations n (rules n s) r w
 
   word-fine : refuses (wordRefusals (2 ^ n) 2 (3 * 2 ^ n) w (length out)) ≡ false
-  unfolding wordRefusals
-  word-fine = rw (eq-eqb (length w) (2 ^ n) (length-map x bit ∙ lx), le-ltb (firstPlace (ltb 2) w) (length w) (omega (arith, no-symbol x)), le-ltb (length out) (3 * 2 ^ n) room)
+  word-fine = word-none (2 ^ n) 2 (3 * 2 ^ n) x (length out) (omega arith) lx room
 
   no-unknown : unknowns n (rules n s) w ≡ 0
   no-unknown = omega (arith, g-le-erased n (rules n s) w (length-map x bit ∙ lx), none-erased x)
@@ -82,10 +76,6 @@ module _ (n : ℕ) (s : List ℕ) (r c : ℕ) (out : List ℕ) (x : List Bool) (
   whole-word y a p = (ap (λ (t : Reply). t .answer) (p ∙ decoded-whole), ap (λ (t : Reply). t .bytes) (p ∙ decoded-whole))
 
 -- ---- what encode wrote
-
-encoded-none : (n : ℕ) (s : List ℕ) (r : ℕ) (p out : List ℕ) → isDone ((encoding n s r p out) .answer) ≡ true → refuses (encodeRefusals n s r p out) ≡ false
-unfolding encoding encodeRefusals sheetRefusals wordRefusals
-encoded-none n s r p out d = done-none out (encodeRefusals n s r p out) _ refl d
 
 module _ (n : ℕ) (s : List ℕ) (r c : ℕ) (p out out′ y z : List ℕ) (a b : Answer) (e : leaving y a ≡ encoding n s r p out) (d : a ≡ Done)
     (f : leaving z b ≡ decoding n s r c (take (2 ^ n) y) out′) (room : 3 * 2 ^ n ≤ length out′) (low : c ≤ largestCeiling) where

@@ -18,15 +18,12 @@ use Rattle.meaning.specs.Limits.{recordBytes, maskBytes}
 use Rattle.meaning.specs.Sheet.{Rule, free, frozen, ruleAt, rules}
 use Rattle.meaning.specs.Open.{unknowns}
 use Rattle.counting.proofs.Lengths.{positions}
+use Rattle.counting.proofs.Counting.{map-tab}
 use Rattle.model.specs.Model.{Values, Walk, Out, leftSyms, rightSyms, eqsAt, decode, symbol, run}
 use Rattle.model.proofs.Steps.{run-unknowns}
 use Rattle.descent.specs.Values.{rowValues}
 use Rattle.descent.specs.Block.{symAt, walkOf, outOf, decoded, Prepared}
 use Rattle.descent.specs.Descending.{widest, found, Ready, Filled}
-
-map-tab : {A B : Type 0} (f : A → B) (d : A) (l : List A) → map f l ≡ tab (length l) (λ (j : ℕ). f (getD l j d))
-map-tab f d [] = refl
-map-tab {B = B} f d (a ∷ l) = ap {B = List B} (λ (r : List B). f a ∷ r) (map-tab f d l)
 
 run-is : (c w n : ℕ) (sheet word v m us es : List ℕ) → Prepared c w word v m → decoded c w sheet n m v (walkOf w 0 us 0 0 es) ≡ run (rowValues c w) (ruleAt sheet) n word
 unfolding run

@@ -62,7 +62,7 @@ dot-ext b x (s ∷ u) (t ∷ v) n h =
     go false f = refl
 
 -- a row with no coefficient from b on
-dot-none : (b : ℕ) (x : Row) (z : List Bool) → ((t : ℕ) → b ≤ t → t < b + length z → has t x ≡ false) → dot b x z ≡ false
+pub dot-none : (b : ℕ) (x : Row) (z : List Bool) → ((t : ℕ) → b ≤ t → t < b + length z → has t x ≡ false) → dot b x z ≡ false
 unfolding dot
 dot-none b x [] h = refl
 dot-none b x (t ∷ z) h = ap₂ (λ (u v : Bool). (u && t) ⊕ v) (h b (omega arith) (omega arith)) (dot-none (suc b) x z (λ k p q. h k (omega arith) (omega arith)))

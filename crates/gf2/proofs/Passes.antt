@@ -50,7 +50,7 @@ either-clear P b e x f = go (has b x)
 
 -- ---- a step, row by row
 
-getD-map : {A B : Type 0} (f : A → B) (l : List A) (i : ℕ) (d : A) (c : B) → i < length l → getD (map f l) i c ≡ f (getD l i d)
+pub getD-map : {A B : Type 0} (f : A → B) (l : List A) (i : ℕ) (d : A) (c : B) → i < length l → getD (map f l) i c ≡ f (getD l i d)
 getD-map f [] i d c h = absurd (omega arith)
 getD-map f (a ∷ l) zero d c h = refl
 getD-map f (a ∷ l) (suc i) d c h = getD-map f l i d c (omega arith)

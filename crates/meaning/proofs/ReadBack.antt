@@ -2,6 +2,8 @@
 --     whole            a word with nothing erased: itself, if it is a codeword, and else no candidate
 --     encode-is        what encoding gives where nothing is refused
 --     read-is          what read-back gives where nothing is refused: 0 exactly on codewords
+--     word-none        bits of the right number, with room, are not refused
+--     encoded-none     encoding that answers Done was refused by nothing
 --     round-trip       what encoding wrote, read-back gives back; round-trip-promised, of any results that the two promises allow
 use mathlib.Core.Path.{_≡_, refl, sym, ap, _∙_}
 use Prim.Native.Nat.{ℕ, suc, _≤_, _+_, _-_, _^_}
@@ -116,16 +118,16 @@ ones-back [] = refl
 ones-back (true ∷ x) = ap {B = List Bool} (λ t. true ∷ t) (ones-back x)
 ones-back (false ∷ x) = ap {B = List Bool} (λ t. false ∷ t) (ones-back x)
 
-no-symbol : (x : List Bool) → firstPlace (ltb 1) (map bit x) ≡ length (map bit x)
-no-symbol [] = refl
-no-symbol (true ∷ x) = ap suc (no-symbol x)
-no-symbol (false ∷ x) = ap suc (no-symbol x)
+no-symbol : (top : ℕ) → 1 ≤ top → (x : List Bool) → firstPlace (ltb top) (map bit x) ≡ length (map bit x)
+no-symbol top h [] = refl
+no-symbol top h (true ∷ x) = rw (le-ltb top 1 h) (ap suc (no-symbol top h x))
+no-symbol top h (false ∷ x) = rw (le-ltb top 0 (omega arith)) (ap suc (no-symbol top h x))
 
 -- bits of the right number, with room, are not refused
-word-none : (wanted needed : ℕ) (x : List Bool) (room : ℕ) → length x ≡ wanted → needed ≤ room → refuses (wordRefusals wanted 1 needed (map bit x) room) ≡ false
+pub word-none : (wanted top needed : ℕ) (x : List Bool) (room : ℕ) → 1 ≤ top → length x ≡ wanted → needed ≤ room → refuses (wordRefusals wanted top needed (map bit x) room) ≡ false
 unfolding wordRefusals
-word-none wanted needed x room l h =
-    rw (eq-eqb (length (map bit x)) wanted (length-map x bit ∙ l), le-ltb (firstPlace (ltb 1) (map bit x)) (length (map bit x)) (omega (arith, no-symbol x)), le-ltb room needed h)
+word-none wanted top needed x room t l h =
+    rw (eq-eqb (length (map bit x)) wanted (length-map x bit ∙ l), le-ltb (firstPlace (ltb top) (map bit x)) (length (map bit x)) (omega (arith, no-symbol top t x)), le-ltb room needed h)
 
 pub round-trip : (n : ℕ) (s : List ℕ) (r : ℕ) (p out out′ : List ℕ) → refuses (encodeRefusals n s r p out) ≡ false → frees (rules n s) - r ≤ length out′
     → readingBack n s r (take (2 ^ n) ((encoding n s r p out) .bytes)) out′ ≡ writing p out′ Done
@@ -143,7 +145,7 @@ round-trip n s r p out out′ ok room =
     ap (λ (a : Reply). take (2 ^ n) (a .bytes)) (encode-is n s r p out ok) ∙ take-at (map bit x) (drop (length (map bit x)) out) (2 ^ n) (length-map x bit ∙ lx) in
     let fine : refuses (readRefusals n s r (map bit x) out′) ≡ false =
     both-none (sheetRefusals n s r) (wordRefusals (2 ^ n) 1 (frees ks - r) (map bit x) (length out′))
-    (none-append (sheetRefusals n s r) (wordRefusals (frees ks - r) 1 (2 ^ n) p (length out)) ok .0) (word-none (2 ^ n) (frees ks - r) x (length out′) lx room) in
+    (none-append (sheetRefusals n s r) (wordRefusals (frees ks - r) 1 (2 ^ n) p (length out)) ok .0) (word-none (2 ^ n) 1 (frees ks - r) x (length out′) (omega arith) lx room) in
     let same : map isOne (map bit x) ≡ x = ones-back x in
     let kept : keeps ks r (polar n (map isOne (map bit x))) ≡ true = ap (λ (t : List Bool). keeps ks r (polar n t)) same ∙ ap (keeps ks r) back ∙ ku in
     let k : frees ks - r ≡ length b = omega (arith, size n s r p out ok) in
@@ -155,7 +157,7 @@ round-trip n s r p out out′ ok room =
     ∙ ap (λ (l : List ℕ). writing l out′ Done) (bits-back p (w .symbols))
 
 -- encoding that answers Done was refused by nothing
-encoded-none : (n : ℕ) (s : List ℕ) (r : ℕ) (p out : List ℕ) → isDone ((encoding n s r p out) .answer) ≡ true → refuses (encodeRefusals n s r p out) ≡ false
+pub encoded-none : (n : ℕ) (s : List ℕ) (r : ℕ) (p out : List ℕ) → isDone ((encoding n s r p out) .answer) ≡ true → refuses (encodeRefusals n s r p out) ≡ false
 unfolding encoding encodeRefusals sheetRefusals wordRefusals
 encoded-none n s r p out d = done-none out (encodeRefusals n s r p out) _ refl d
 

@@ -5,13 +5,13 @@
 use mathlib.Core.Path.{_≡_, refl, sym, ap, ap₂, _∙_, subst}
 use Prim.Native.Nat.{ℕ, zero, suc, _+_, _^_}
 use native.Mathlib.Omega.{arith}
-use native.Mathlib.Nat.{suc-inj, zero-add, suc-add}
+use native.Mathlib.Nat.{suc-inj, zero-add}
 use mathlib.Core.Bool.{Bool, true, false, _&&_, not}
 use mathlib.Core.List.{List, [], _∷_, _++_, map, append-nil, append-assoc}
 use mathlib.Core.Option.{Option}
 use lib.ListN.{length, take, drop, replicate, length-append, length-take, length-drop, take-append-drop}
 use Rattle.bits.specs.Vectors.{_⊕_, _⊞_, tab, odd}
-use Rattle.bits.proofs.Tests.{length-tab}
+use Rattle.bits.proofs.Tests.{length-tab, tab-ext, tab-append}
 use Rattle.meaning.specs.Limits.{leads}
 use Rattle.meaning.specs.Transform.{polar}
 use Rattle.meaning.specs.Sheet.{Rule, free, frozen}
@@ -23,20 +23,12 @@ use Rattle.model.specs.Counted.{rulesFrom}
 use Rattle.model.proofs.Halves.{length-lefts, length-rights}
 use Rattle.model.proofs.Leaf.{leaf, leaf-append, length-leaf}
 
--- ---- tables
-
-tab-add : {A : Type 0} (m k : ℕ) (f : ℕ → A) → tab (m + k) f ≡ tab m f ++ tab k (λ (j : ℕ). f (m + j))
-tab-add zero k f = simp zero-add
-tab-add {A = A} (suc m) k f = simp suc-add (ap {B = List A} (λ (l : List A). f zero ∷ l) (tab-add m k (λ (i : ℕ). f (suc i))))
-
-pub tab-ext : {A : Type 0} (m : ℕ) (f g : ℕ → A) → ((j : ℕ) → f j ≡ g j) → tab m f ≡ tab m g
-tab-ext zero f g h = refl
-tab-ext {A = A} (suc m) f g h = ap₂ {C = List A} _∷_ (h zero) (tab-ext m (λ (i : ℕ). f (suc i)) (λ (i : ℕ). g (suc i)) (λ j. h (suc j)))
+-- ---- rules
 
 rules-halves : (rule : ℕ → Rule) (i n : ℕ) → rulesFrom rule i (2 ^ suc n) ≡ rulesFrom rule i (2 ^ n) ++ rulesFrom rule (i + 2 ^ n) (2 ^ n)
 rules-halves rule i n =
     let e : 2 ^ suc n ≡ 2 ^ n + 2 ^ n = omega arith in
-    ap (rulesFrom rule i) e ∙ tab-add (2 ^ n) (2 ^ n) (λ (j : ℕ). rule (i + j))
+    ap (rulesFrom rule i) e ∙ tab-append (2 ^ n) (2 ^ n) (λ (j : ℕ). rule (i + j))
     ∙ ap (λ (l : List Rule). rulesFrom rule i (2 ^ n) ++ l)
     (tab-ext (2 ^ n) (λ (j : ℕ). rule (i + (2 ^ n + j))) (λ (j : ℕ). rule (i + 2 ^ n + j)) (λ j. ap rule (omega arith)))
 

@@ -8,6 +8,7 @@ use mathlib.Core.List.{List, _++_, map}
 use mathlib.Core.Option.{Option}
 use lib.ListN.{length, length-map}
 use Rattle.bits.specs.Vectors.{tab, ones}
+use Rattle.bits.proofs.Tests.{tab-ext}
 use Rattle.meaning.specs.Transform.{polar}
 use Rattle.meaning.specs.Sheet.{Rule, early}
 use Rattle.meaning.specs.Codewords.{agrees}
@@ -18,7 +19,7 @@ use Rattle.model.specs.Decoded.{picked, keptOpen, residuals, Decoded}
 use Rattle.model.specs.Counted.{lost}
 use Rattle.model.proofs.Halves.{opens-symbols, agreesSyms, agrees-symbols}
 use Rattle.model.proofs.Leaf.{leaf, agrees-leaf, lost-leaf}
-use Rattle.model.proofs.AtBits.{tab-ext, rules-start, checks-bits, walk, reads, walk-us, found}
+use Rattle.model.proofs.AtBits.{rules-start, checks-bits, walk, reads, walk-us, found}
 use Rattle.model.proofs.Walked.{reads-agrees, reads-given, reads-kept}
 
 module _ (rule : ℕ → Rule) (n : ℕ) (w : List ℕ) (lw : length w ≡ 2 ^ n) (ok : early 0 (tab (2 ^ n) rule) ≡ true) (t : ℕ → Bool) where

@@ -13,7 +13,7 @@ use mathlib.Core.List.{List, [], _∷_, _++_, map, append-nil, append-assoc}
 use mathlib.Core.Option.{Option, none, some}
 use lib.ListN.{length, drop, length-append}
 use Rattle.bits.specs.Vectors.{_⊕_, tab, zeros, ones, odd}
-use Rattle.bits.proofs.Tests.{and-l, and-r, and-i}
+use Rattle.bits.proofs.Tests.{and-l, and-r, and-i, tab-ext}
 use Rattle.bits.proofs.Xor.{⊕-eq}
 use Rattle.meaning.specs.Sheet.{Rule, free, frozen, early}
 use Rattle.meaning.specs.Check.{keepsRules}
@@ -24,7 +24,7 @@ use Rattle.model.specs.AtBits.{bits}
 use Rattle.model.specs.Decoded.{picked, keptOpen, residuals}
 use Rattle.model.specs.Counted.{lost}
 use Rattle.model.proofs.Halves.{agreesSyms}
-use Rattle.model.proofs.AtBits.{rule-bit, walk, reads, tab-ext}
+use Rattle.model.proofs.AtBits.{rule-bit, walk, reads}
 
 -- ---- the rules, by open and closed positions
 

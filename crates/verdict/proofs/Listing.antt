@@ -2,7 +2,7 @@
 --     map-filter                   by functions and tests that are equal on the list
 --     first-of, last-of            the first and the last of a list that rises
 --     common-same, common-other    a value that all have, and one that two differ at
---     map-at, tab-places, places   lists place by place
+--     tab-places, places           lists place by place
 --     strips-are                   the three strips
 --     verdict-none, verdict-is     the verdict on no candidates, and on 2 ^ d of them
 use mathlib.Core.Path.{_≡_, refl, sym, ap, ap₂, _∙_}
@@ -79,11 +79,6 @@ module _ {A : Type 0} where
 -- ---- place by place
 
 module _ {A B : Type 0} (d : A) where
-  pub map-at : (f : A → B) (l : List A) (j : ℕ) (z : B) → j < length l → getD (map f l) j z ≡ f (getD l j d)
-  map-at f [] j z h = absurd (omega arith)
-  map-at f (a ∷ l) zero z h = refl
-  map-at f (a ∷ l) (suc j) z h = map-at f l j z (omega arith)
-
   pub tab-places : (m : ℕ) (f : ℕ → B) (h : A → B) (s : List A) → length s ≡ m → ((j : ℕ) → j < m → f j ≡ h (getD s j d)) → tab m f ≡ map h s
   tab-places zero f h [] l e = refl
   tab-places zero f h (a ∷ s) l e = absurd (omega arith)

@@ -24,6 +24,7 @@ use Rattle.gf2.specs.Rows.{hasAt, has}
 use Rattle.gf2.specs.Solve.{lead}
 use Rattle.gf2.specs.System.{dot}
 use Rattle.gf2.proofs.Leads.{lead-holds, lead-le}
+use Rattle.gf2.proofs.Fill.{dot-none}
 use Rattle.descent.specs.Values.{noughtRow, unitRow, unknownRow}
 
 -- ---- the bits of a power of 2
@@ -81,20 +82,15 @@ unit-row c w =
 
 -- ---- the sum of the unknowns
 
-dot-none : (b : ℕ) (x : Row) (z : List Bool) → ((t : ℕ) → b ≤ t → has t x ≡ false) → dot b x z ≡ false
-unfolding dot
-dot-none b x [] h = refl
-dot-none b x (t ∷ z) h = ap₂ (λ (u v : Bool). (u && t) ⊕ v) (h b (omega arith)) (dot-none (suc b) x z (λ k p. h k (omega arith)))
-
 pub dot-nought : (w : ℕ) (z : List Bool) → dot 0 (noughtRow w) z ≡ false
-dot-nought w z = dot-none 0 (noughtRow w) z (λ t p. has-nought w t)
+dot-nought w z = dot-none 0 (noughtRow w) z (λ t p q. has-nought w t)
 
 -- of a row with the bit b + k alone
 dot-only : (b : ℕ) (x : Row) (z : List Bool) (k : ℕ) → has (b + k) x ≡ true → ((t : ℕ) → (t ≡ b + k → ⊥) → has t x ≡ false) → dot b x z ≡ getD z k false
 unfolding dot
 dot-only b x [] k s o = refl
 dot-only b x (t ∷ z) zero s o =
-    ap₂ (λ (u v : Bool). (u && t) ⊕ v) (ap (λ (i : ℕ). has i x) (sym (add-zero b)) ∙ s) (dot-none (suc b) x z (λ i l. o i (λ (q : i ≡ b + 0). omega arith))) ∙ ⊕-false t
+    ap₂ (λ (u v : Bool). (u && t) ⊕ v) (ap (λ (i : ℕ). has i x) (sym (add-zero b)) ∙ s) (dot-none (suc b) x z (λ i l m. o i (λ (q : i ≡ b + 0). omega arith))) ∙ ⊕-false t
 dot-only b x (t ∷ z) (suc k) s o =
     let e : b + suc k ≡ suc b + k = omega arith in
     ap₂ (λ (u v : Bool). (u && t) ⊕ v) (o b (λ (q : b ≡ b + suc k). omega arith))

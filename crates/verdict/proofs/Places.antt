@@ -20,14 +20,14 @@ use Rattle.gf2.specs.Rows.{at}
 use Rattle.gf2.specs.Solve.{lead, solve}
 use Rattle.gf2.specs.System.{Within, Hom, value, solves, consistent, completed, unit}
 use Rattle.gf2.proofs.Rows.{has-⊻}
-use Rattle.gf2.proofs.Passes.{solve-sized}
+use Rattle.gf2.proofs.Passes.{getD-map, solve-sized}
 use Rattle.gf2.proofs.Fill.{length-fill}
 use Rattle.gf2.proofs.Solutions.{after, rest, rest-within, completed-solves, first-solution, last-solution, solution-count, settled, rest-by-free, first-value, unsettled}
 use Rattle.meaning.specs.Strips.{settledAt, first, last, strips}
 use Rattle.meaning.specs.Answers.{verdict, writing}
 use Rattle.meaning.specs.declared.Answer.the-variants.{Unique, Ambiguous}
 use Rattle.verdict.specs.Reading.{constant, rowSettled, rowFirst, rowLast, rowStrips, rowVerdict}
-use Rattle.verdict.proofs.Listing.{first-of, last-of, common-same, common-other, map-at, tab-places, places, strips-are, verdict-none, verdict-is}
+use Rattle.verdict.proofs.Listing.{first-of, last-of, common-same, common-other, tab-places, places, strips-are, verdict-none, verdict-is}
 
 module _ (c : ℕ) (e r : List Row) (g : ℕ) (hg : g ≤ 64 * c) (B : Within c g e) where
   abbrev κ : Row → Bool
@@ -87,7 +87,7 @@ module _ (c : ℕ) (e r : List Row) (g : ℕ) (hg : g ≤ 64 * c) (B : Within c 
           x = at (rest c e r) j
 
           read : (t : List Bool) → getD (block t) j false ≡ value κ t (at r j)
-          read t = map-at [] (value κ t) r j false h
+          read t = getD-map (value κ t) r j [] false h
 
           low : List·Memᴰ (block lowest) (map block solutions)
           low = Memᴰ·map block (full (replicate g false) (length-replicate g false))
