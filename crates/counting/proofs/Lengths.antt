@@ -3,7 +3,7 @@
 --     shaped-large, -sheet, -word        each test of the code, and what the definition then says
 --     shaped-true, positions             what holds where the lengths fit
 --     counting-none, counting-all        what `counting` comes to
-use mathlib.Core.Path.{_≡_, refl, sym, _∙_}
+use mathlib.Core.Path.{_≡_, sym, _∙_}
 use Prim.Native.Nat.{ℕ, _*_, _^_, _%_, _≤_, _<_}
 use native.Mathlib.Omega.{arith}
 use native.Mathlib.Nat.{one-mul, mod-eq-of-lt}

@@ -2,14 +2,13 @@
 --     halves                          a block of 2 ^ k slots by its halves
 --     leaf-ask, ask-left, ask-right   what a position, the left half and the right half ask
 --     leaf-back, done                 the block is done
-use mathlib.Core.Path.{_≡_, refl, sym, ap, ap₂, _∙_}
-use Prim.Native.Nat.{ℕ, zero, suc, _+_, _-_, _*_, _/_, _^_, _≤_, _<_}
+use mathlib.Core.Path.{_≡_, sym, ap, ap₂, _∙_}
+use Prim.Native.Nat.{ℕ, suc, _+_, _-_, _*_, _/_, _^_, _≤_, _<_}
 use native.Mathlib.Omega.{arith}
-use native.Mathlib.Nat.{pow-suc, add-mul, one-mul}
-use mathlib.Core.List.{List, _++_, append-nil}
-use lib.ListN.{length, take, drop, length-drop, drop-of-length-le}
-use lib.Seq.{take-all, drop-at, length-take-le}
-use borrow.Rule.Slice.PartMut.{putMid}
+use native.Mathlib.Nat.{add-mul, one-mul}
+use mathlib.Core.List.{List, _++_}
+use lib.ListN.{length, take, drop}
+use lib.Seq.{length-take-le}
 use Rattle.bits.specs.Rows.{Row}
 use Rattle.meaning.specs.Limits.{recordBytes, maskBytes}
 use Rattle.counting.proofs.Parts.{half-of, from, from-length}

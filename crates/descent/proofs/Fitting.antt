@@ -2,18 +2,18 @@
 --     whole-fits                       N rows of w words, within a machine word
 --     roomy-.., filled-..              each test of the code, and what the definition then says
 --     fitting-..                       the whole test; what holds where all fits
-use mathlib.Core.Path.{_≡_, refl, sym, ap, ap₂, _∙_}
-use Prim.Native.Nat.{ℕ, _*_, _^_, _%_, _≤_, _<_}
+use mathlib.Core.Path.{_≡_, sym, _∙_}
+use Prim.Native.Nat.{ℕ, _*_, _^_, _≤_, _<_}
 use native.Mathlib.Omega.{arith}
-use native.Mathlib.Nat.{one-mul, mod-eq-of-lt, mul-le-mul-right}
-use mathlib.Core.Bool.{Bool, true, false, _&&_, not}
+use native.Mathlib.Nat.{mul-le-mul-right}
+use mathlib.Core.Bool.{Bool, true, false, not}
 use lib.Dec.{eqb, leb, ltb}
-use lib.Pow.{pow-mono, pow-lt}
+use lib.Pow.{pow-mono}
 use mir.Val.{Fits}
 use mir.Syntax.{w64}
 use borrow.Author.Tests.{ltb-true, leb-true, eqb-true, lt-ltb, le-ltb, le-leb, lt-leb, eq-eqb, ne-eqb, not-true}
 use Rattle.bits.proofs.Tests.{and-l, and-r}
-use Rattle.meaning.specs.Limits.{largestN, recordBytes, maskBytes}
+use Rattle.meaning.specs.Limits.{largestN}
 use Rattle.counting.specs.Counting.{shaped}
 use Rattle.counting.proofs.Lengths.{shaped-true}
 use Rattle.descent.specs.Descending.{widest, roomy, filled, fitting, Ready}

@@ -19,7 +19,7 @@ use Rattle.bits.specs.Rows.{Row, rows, Wide}
 use Rattle.bits.proofs.Tests.{and-l}
 use Rattle.bits.proofs.RowLaws.{length-⊻, rows-flatten, rows-front}
 use Rattle.meaning.specs.Sheet.{Rule, ruleAt, rules}
-use Rattle.meaning.specs.Open.{openAll, closedFrozen, unknowns, equations}
+use Rattle.meaning.specs.Open.{closedFrozen, unknowns, equations}
 use Rattle.counting.specs.Counting.{counting}
 use Rattle.counting.proofs.Lengths.{counting-all}
 use Rattle.model.specs.Model.{start, symbol, run}

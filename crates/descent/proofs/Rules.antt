@@ -5,7 +5,7 @@
 use mathlib.Core.Path.{_≡_, refl, sym, ap, ap₂, _∙_}
 use Prim.Native.Nat.{ℕ, zero, suc, _+_, _-_, _*_, _/_, _%_, _^_, _≤_, _<_}
 use native.Mathlib.Omega.{arith}
-use native.Mathlib.Nat.{zero-add, mod-lt, mod-eq-of-lt, pow-le-pow-right}
+use native.Mathlib.Nat.{mod-lt, mod-eq-of-lt, pow-le-pow-right}
 use mathlib.Core.Bool.{Bool, true, false}
 use mathlib.Core.List.{List, [], _∷_}
 use lib.ListN.{length, drop, set, getD, replicate, length-replicate, length-set}
@@ -17,7 +17,7 @@ use Rattle.bits.specs.Vectors.{tab}
 use Rattle.bits.specs.Rows.{Row, _⊻_, part, row, rows, zeroed, added}
 use Rattle.bits.proofs.RowLaws.{length-⊻, ⊻-comm, nought-⊻, one-⊻, length-part, getD-part, paste-part, paste-again, paste-set, paste-all, row-fit, length-written, zeroed-fits, added-fits}
 use Rattle.meaning.specs.Limits.{maskBytes}
-use Rattle.meaning.specs.Sheet.{Rule, free, frozen, byte, names, mask, ruleAt}
+use Rattle.meaning.specs.Sheet.{byte, names, mask}
 use Rattle.model.specs.Model.{gate, named, ruleValue}
 use Rattle.descent.specs.Values.{unitRow, unknownRow, rowValues}
 

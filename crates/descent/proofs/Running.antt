@@ -2,14 +2,14 @@
 --     run-is, run-ask, run-back     the model on a word
 --     run-most, room                there is room for all unknowns and all equations
 --     rows-run, filled-up           the slices are the model's rows, one after the other, and zeros behind the equations
-use mathlib.Core.Path.{_≡_, refl, sym, ap, ap₂, _∙_}
+use mathlib.Core.Path.{_≡_, sym, ap, ap₂, _∙_}
 use Prim.Native.Nat.{ℕ, zero, suc, _+_, _-_, _*_, _^_, _≤_, _<_}
 use native.Mathlib.Omega.{arith}
 use native.Mathlib.Nat.{zero-add, pow-suc, mul-le-mul-right, add-mul}
-use mathlib.Core.List.{List, [], _∷_, _++_, map, append-assoc, append-nil, flatten}
+use mathlib.Core.List.{List, [], _∷_, _++_, map, append-nil, flatten}
 use mathlib.Core.Option.{Option, none, some}
 use lib.ListN.{length, take, drop, getD, replicate, length-append, length-replicate, drop-of-length-le}
-use lib.Seq.{paste, take-all}
+use lib.Seq.{take-all}
 use Rattle.bits.specs.Vectors.{tab}
 use Rattle.bits.specs.Rows.{Row, row, rows, zeroed}
 use Rattle.bits.proofs.Tests.{length-tab, tab-below}

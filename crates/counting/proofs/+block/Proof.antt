@@ -5,7 +5,6 @@ use lib.ListN.{length, take, drop, length-take, length-drop}
 use lib.Seq.{length-take-le}
 use borrow.Author.Needs.{needs}
 use Rattle.meaning.specs.Limits.{maskBytes, recordBytes}
-use Rattle.meaning.proofs.Divide.{R}
 use Rattle.counting.specs.Halves.{openFrees}
 use Rattle.counting.proofs.Parts.{half-of, from-back}
 use Rattle.counting.proofs.Counting.{counts-one, counts-most, counts-halves}

@@ -1,13 +1,12 @@
 use mathlib.Core.Path.{sym, _∙_}
 use native.Mathlib.Omega.{arith}
-use borrow.Author.Needs.{needs}
 use borrow.Author.Tests.{not-false}
 use Rattle.counting.proofs.Lengths.{shaped-true, positions, counting-none, counting-all}
 use Rattle.counting.proofs.unknowns.Statement.{statement}
 use Rattle.counting.proofs.unknowns.Tie as tie
 
 shaped-requires : tie.Need-shaped-requires
-shaped-requires c κs = search needs
+shaped-requires c κs = tt
 
 returns : tie.Need-returns
 returns c = sym (counting-none _ _ _ (c .before .shaped .ensures) (c .if1 .taken))

@@ -1,16 +1,15 @@
-use borrow.Author.Needs.{needs}
 use Rattle.descent.proofs.Promise.{misfit, over, allowed, found-all}
 use Rattle.descent.proofs.descend.Statement.{statement}
 use Rattle.descent.proofs.descend.Tie as tie
 
 fits-requires : tie.Need-fits-requires
-fits-requires c κs = search needs
+fits-requires c κs = tt
 
 returns : tie.Need-returns
 returns c = misfit _ _ _ _ _ _ _ _ _ (c .before .fits2 .ensures) (c .if1 .taken)
 
 unknowns-requires : tie.Need-unknowns-requires
-unknowns-requires c κs = search needs
+unknowns-requires c κs = tt
 
 returns-2 : tie.Need-returns-2
 returns-2 c =

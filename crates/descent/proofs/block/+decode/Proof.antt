@@ -6,7 +6,6 @@ use mathlib.Core.List.{_++_}
 use lib.ListN.{length, take, drop, length-take}
 use lib.Seq.{length-take-le}
 use Rattle.meaning.specs.Limits.{maskBytes, recordBytes}
-use Rattle.meaning.proofs.Divide.{R}
 use Rattle.model.specs.Model.{decode}
 use Rattle.counting.proofs.Parts.{back, from-length}
 use Rattle.descent.proofs.Asks.{halves, leaf-ask, leaf-back, ask-left, ask-right, done}

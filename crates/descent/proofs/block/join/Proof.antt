@@ -2,7 +2,6 @@ use mathlib.Core.Path.{_≡_, refl, _∙_}
 use Prim.Native.Nat.{_+_, _-_, _≤_}
 use native.Mathlib.Omega.{arith}
 use lib.ListN.{length}
-use borrow.Author.Needs.{needs}
 use Rattle.bits.proofs.RowLaws.{row-fit}
 use Rattle.descent.proofs.Slots.{JoinUpTo, join-start, join-turn, join-end}
 use Rattle.descent.proofs.block.join.Statement.{statement}
@@ -31,7 +30,7 @@ mul-add-within-2 c =
     omega (arith, row-fit (A .h + c .before .before .loop .j) (A .h + A .h) (A .w) (omega arith))
 
 add-within-requires : tie.Need-add-within-requires Inv-loop μ-loop
-add-within-requires c κs = search needs
+add-within-requires c κs = tt
 
 add-j : tie.Need-add-j Inv-loop μ-loop
 add-j c = omega arith

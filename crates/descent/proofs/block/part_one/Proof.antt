@@ -2,7 +2,6 @@ use mathlib.Core.Path.{refl}
 use Prim.Native.Nat.{_+_}
 use native.Mathlib.Omega.{arith}
 use lib.ListN.{length-set}
-use borrow.Author.Needs.{needs}
 use Rattle.bits.proofs.RowLaws.{row-fit}
 use Rattle.descent.proofs.Slots.{part-owed, part-none, part-both, part-right}
 use Rattle.descent.proofs.block.part_one.Statement.{statement}
@@ -28,7 +27,7 @@ mul-copy-within-2 c =
     omega (arith, row-fit (A .j) (A .h + A .h) (A .w) (omega arith))
 
 copy-within-requires : tie.Need-copy-within-requires
-copy-within-requires c κs = search needs
+copy-within-requires c κs = tt
 
 slice-write-marks : tie.Need-slice-write-marks
 slice-write-marks c = omega arith
@@ -53,7 +52,7 @@ mul-add-within-2 c =
     omega (arith, row-fit (A .h + A .j) (A .h + A .h) (A .w) (omega arith))
 
 add-within-requires : tie.Need-add-within-requires
-add-within-requires c κs = search needs
+add-within-requires c κs = tt
 
 same-length : tie.Need-same-length
 same-length c = c .before .before .copy-within .kept .0

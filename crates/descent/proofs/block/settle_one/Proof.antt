@@ -2,7 +2,6 @@ use mathlib.Core.Path.{refl}
 use Prim.Native.Nat.{_+_}
 use native.Mathlib.Omega.{arith}
 use lib.ListN.{length-set}
-use borrow.Author.Needs.{needs}
 use Rattle.bits.proofs.RowLaws.{row-fit}
 use Rattle.descent.proofs.Slots.{settle-owed, settle-none}
 use Rattle.descent.proofs.block.settle_one.Statement.{statement}
@@ -25,7 +24,7 @@ mul-add-within-2 c =
     omega (arith, row-fit (A .j) (A .h + A .h) (A .w) (omega arith))
 
 add-within-requires : tie.Need-add-within-requires
-add-within-requires c κs = search needs
+add-within-requires c κs = tt
 
 slice-write-marks : tie.Need-slice-write-marks
 slice-write-marks c = omega arith

@@ -2,7 +2,6 @@ use mathlib.Core.Path.{_∙_}
 use native.Mathlib.Omega.{arith}
 use lib.ListN.{length}
 use lib.Dec.{eqb}
-use borrow.Author.Needs.{needs}
 use Rattle.bits.specs.Rows.{rows}
 use Rattle.meaning.specs.Limits.{maskBytes, recordBytes}
 use Rattle.meaning.specs.Sheet.{byte, mask, ruleAt}
@@ -39,7 +38,7 @@ rule-row-requires c κs =
     ((omega arith, P .0 .1, P .0 .2), P .1 .0)
 
 add-requires : tie.Need-add-requires
-add-requires c κs = search needs
+add-requires c κs = tt
 
 add-t18 : tie.Need-add-t18
 add-t18 c =

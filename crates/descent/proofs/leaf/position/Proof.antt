@@ -1,8 +1,7 @@
-use mathlib.Core.Path.{_∙_}
+use mathlib.Core.Path.{refl, _∙_}
 use Prim.Native.Nat.{_*_}
 use native.Mathlib.Omega.{arith}
 use lib.ListN.{length}
-use borrow.Author.Needs.{needs}
 use Rattle.descent.proofs.Leaves.{none-next, some-room, leaf-erased, leaf-known}
 use Rattle.descent.proofs.Running.{room}
 use Rattle.descent.proofs.leaf.position.Statement.{statement}
@@ -22,7 +21,7 @@ mul-copy : tie.Need-mul-copy
 mul-copy c = omega arith
 
 copy-requires : tie.Need-copy-requires
-copy-requires c κs = search needs
+copy-requires c κs = tt
 
 hold-requires : tie.Need-hold-requires
 hold-requires c κs =
@@ -35,7 +34,7 @@ mul-copy-2 : tie.Need-mul-copy-2
 mul-copy-2 c = omega arith
 
 copy-requires-2 : tie.Need-copy-requires-2
-copy-requires-2 c κs = search needs
+copy-requires-2 c κs = tt
 
 same-length : tie.Need-same-length
 same-length c = c .before .before .before .before .before .before .before .fill .kept .1 .0
@@ -53,13 +52,13 @@ returns c =
     (F .last .1 .0) (C .last .0) (F .result .next) (F .result .eqs) (F .kept .1 .0 ∙ P .0 .1) (F .ensures) (C .ensures)
 
 same-length-3 : tie.Need-same-length-3
-same-length-3 c = search needs
+same-length-3 c = refl
 
 same-length-4 : tie.Need-same-length-4
-same-length-4 c = search needs
+same-length-4 c = c .before .before .copy2 .kept .0
 
 same-length-5 : tie.Need-same-length-5
-same-length-5 c = search needs
+same-length-5 c = c .before .before .before .before .before .before .before .hold .kept .1 .1 .1 .0
 
 returns-2 : tie.Need-returns-2
 returns-2 c =

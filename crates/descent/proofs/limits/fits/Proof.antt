@@ -1,5 +1,4 @@
 use mathlib.Core.Path.{sym, _∙_}
-use borrow.Author.Needs.{needs}
 use borrow.Author.Tests.{not-false}
 use Rattle.counting.proofs.Lengths.{shaped-true}
 use Rattle.descent.proofs.Fitting.{fitting-shaped, fitting-roomy, fitting-filled, roomy-true}
@@ -7,13 +6,13 @@ use Rattle.descent.proofs.limits.fits.Statement.{statement}
 use Rattle.descent.proofs.limits.fits.Tie as tie
 
 shaped-requires : tie.Need-shaped-requires
-shaped-requires c κs = search needs
+shaped-requires c κs = tt
 
 returns : tie.Need-returns
 returns c = sym (fitting-shaped _ _ _ _ _ _ _ _ _ (c .before .shaped .ensures) (c .if1 .taken))
 
 roomy-requires : tie.Need-roomy-requires
-roomy-requires c κs = search needs
+roomy-requires c κs = tt
 
 returns-2 : tie.Need-returns-2
 returns-2 c =

@@ -1,7 +1,6 @@
 use mathlib.Core.Path.{sym, _∙_}
 use Prim.Native.Nat.{_-_, _≤_}
 use native.Mathlib.Omega.{arith}
-use borrow.Author.Needs.{needs}
 use Rattle.bits.proofs.RowLaws.{row-fit}
 use Rattle.meaning.specs.Limits.{maskBytes, recordBytes}
 use Rattle.descent.proofs.Rules.{Sum, sum-start, sum-all, sum-hit, sum-miss}
@@ -15,7 +14,7 @@ abbrev μ-loop : tie.MeasureT-loop
 μ-loop d₀ to us sheet at w j₀ d j = j
 
 zero-requires : tie.Need-zero-requires Inv-loop μ-loop
-zero-requires c κs = search needs
+zero-requires c κs = tt
 
 loop-holds : tie.Need-loop-holds Inv-loop μ-loop
 loop-holds c = (omega arith, sum-start _ _ _ _ _ _ _ (c .before .before .before .before .before .before .before .pre .0 .0) (c .before .before .zero .ensures))
@@ -33,7 +32,7 @@ mul-add c =
     omega (arith, row-fit (c .before .before .before .before .loop .j - 1) (A .at) (A .w) (omega arith))
 
 add-requires : tie.Need-add-requires Inv-loop μ-loop
-add-requires c κs = search needs
+add-requires c κs = tt
 
 loop-less : tie.Need-loop-less Inv-loop μ-loop
 loop-less c = omega arith

@@ -6,7 +6,7 @@ use Rattle.descent.proofs.rule.unknown_row.Statement.{statement}
 use Rattle.descent.proofs.rule.unknown_row.Tie as tie
 
 zero-requires : tie.Need-zero-requires
-zero-requires c κs = search needs
+zero-requires c κs = tt
 
 shl-d : tie.Need-shl-d
 shl-d c = search needs

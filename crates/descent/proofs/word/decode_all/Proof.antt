@@ -2,9 +2,7 @@ use mathlib.Core.Path.{_∙_}
 use Prim.Native.Nat.{_*_, _^_, _≤_}
 use native.Mathlib.Omega.{arith}
 use native.Mathlib.Nat.{mul-le-mul-right}
-use borrow.Author.Needs.{needs}
 use Rattle.meaning.specs.Limits.{largestN}
-use Rattle.meaning.proofs.Divide.{R}
 use Rattle.descent.specs.Descending.{widest}
 use Rattle.descent.proofs.Running.{ready-ask, many-most, filled-up}
 use Rattle.descent.proofs.word.decode_all.Statement.{statement}
@@ -37,7 +35,7 @@ sub-zero c =
     omega (arith, R .rows-e, D .kept .1 .1 .1 .1 .1 .0)
 
 zero-requires : tie.Need-zero-requires
-zero-requires c κs = search needs
+zero-requires c κs = tt
 
 same-length : tie.Need-same-length
 same-length c = c .before .before .before .before .before .before .before .before .before .before .before .before .decode-word .kept .1 .1 .0

@@ -1,6 +1,5 @@
 use native.Mathlib.Omega.{arith}
 use lib.ListN.{length, length-set}
-use borrow.Author.Needs.{needs}
 use Rattle.bits.proofs.RowLaws.{row-room}
 use Rattle.descent.proofs.Placing.{place-gone, place-zero, place-one}
 use Rattle.descent.proofs.word.place.Statement.{statement}
@@ -12,7 +11,7 @@ mul-zero c =
     omega (arith, row-room (S .args .w) (length (S .args .marks .now)) (S .args .vals .now) (S .pre .0) (S .args .j) (S .pre .1))
 
 zero-requires : tie.Need-zero-requires
-zero-requires c κs = search needs
+zero-requires c κs = tt
 
 slice-write-marks : tie.Need-slice-write-marks
 slice-write-marks c = omega arith
