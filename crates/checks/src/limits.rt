@@ -23,10 +23,10 @@ pub fn size_of(n: usize) -> usize
 fn recorded(n: usize, sheet: usize) -> bool
     ensures { λ t. ⌜ t ≡ recorded n sheet ⌝ }
 {
-    if counting::LARGEST_N < n {
+    if meaning::limits::LARGEST_N < n {
         return false;
     }
-    sheet == size_of(n) * counting::RECORD
+    sheet == size_of(n) * meaning::limits::RECORD
 }
 
 // Whether there is a check of length r.

@@ -67,7 +67,7 @@ fn kind(sheet: &[u8], i: usize) -> u8
     requires { ⌜ (i + 1) * recordBytes ≤ length (now sheet) ⌝ }
     ensures { λ t. ⌜ t ≡ byte (now (sheet .entry)) i 0 ⌝ }
 {
-    sheet[i * counting::RECORD]
+    sheet[i * meaning::limits::RECORD]
 }
 
 // Feeds word k of each free row of `us`, from a register of zeros.

@@ -21,8 +21,8 @@ mod register;
 mod rules;
 mod transform;
 
-use form::limits;
 use meaning::Answer;
+use meaning::limits;
 
 // The K free bits of a payload: the payload, then its r check bits.
 fn with_check(payload: &[u8], r: usize, free: &mut [u8])

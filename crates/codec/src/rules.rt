@@ -14,7 +14,7 @@ ghost use Rattle.meaning.specs.Answers.{isOne};
 ghost use Rattle.codec.specs.Division.{AreBits};
 ghost use Rattle.codec.specs.Packed.{held};
 ghost use Rattle.codec.specs.Ready.{Tells};
-use form::limits;
+use meaning::limits;
 
 // Byte k of record i.
 fn byte_at(sheet: &[u8], i: usize, k: usize) -> u8

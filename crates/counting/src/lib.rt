@@ -1,5 +1,5 @@
 // The number of unknowns of a word, from what is erased alone: its open free positions, by halves. A symbol above 1 is
-// erased. Also the numbers that a sheet and a word are laid out by, and the test of their lengths.
+// erased. Also the test of the lengths of a sheet and a word.
 ghost use mathlib.Core.Path.{_≡_};
 ghost use Prim.Native.Nat.{_+_, _*_, _^_, _≤_, _<_};
 ghost use lib.ListN.{length};
@@ -8,18 +8,7 @@ ghost use Rattle.meaning.specs.Sheet.{ruleAt, rules};
 ghost use Rattle.meaning.specs.Open.{unknowns};
 ghost use Rattle.counting.specs.Counting.{shaped, counting};
 ghost use Rattle.counting.specs.Halves.{SpreadOne, Spread, openOne, openFrees};
-
-// N = 2 to the n positions, n up to this.
-pub const LARGEST_N: usize = 7;
-
-// Bytes of a record's mask.
-const MASK: usize = 16;
-
-// Bytes of a record.
-pub const RECORD: usize = 4 + MASK;
-
-// The most positions: one for each bit of a mask.
-pub const POSITIONS: usize = 8 * MASK;
+use meaning::limits;
 
 // N, 2 to the n.
 fn size_of(n: usize) -> usize
@@ -33,11 +22,11 @@ fn size_of(n: usize) -> usize
 pub fn shaped(n: usize, sheet: usize, word: usize) -> bool
     ensures { λ r. ⌜ r ≡ shaped n sheet word ⌝ }
 {
-    if LARGEST_N < n {
+    if limits::LARGEST_N < n {
         return false;
     }
     let size = size_of(n);
-    if sheet != size * RECORD {
+    if sheet != size * limits::RECORD {
         return false;
     }
     word == size
@@ -75,7 +64,7 @@ fn one(sheet: &[u8], at: usize, s: u8) -> usize
     requires { ⌜ (at + 1) * recordBytes ≤ length (now sheet) ⌝ }
     ensures { λ r. ⌜ r ≡ openOne (ruleAt (now (sheet .entry)) at) s ⌝ }
 {
-    if sheet[at * RECORD] != 0 {
+    if sheet[at * limits::RECORD] != 0 {
         return 0;
     }
     if s > 1 { 1 } else { 0 }
@@ -123,7 +112,7 @@ fn within(n: usize, sheet: &[u8], word: &[u8]) -> usize
     requires { ⌜ (length (now word) ≡ 2 ^ n) × (length (now word) ≤ 8 * maskBytes) × (length (now word) * recordBytes ≤ length (now sheet)) ⌝ }
     ensures { λ r. ⌜ r ≡ unknowns n (rules n (now (sheet .entry))) (now (word .entry)) ⌝ }
 {
-    let mut marks: [u8; POSITIONS] = [0; POSITIONS];
+    let mut marks: [u8; limits::POSITIONS] = [0; limits::POSITIONS];
     let size = word.len();
     count(&mut marks[..size], sheet, word, n)
 }

@@ -13,12 +13,10 @@ mod strips;
 
 use descent::Descent;
 use meaning::Answer;
-
-// The most unknowns that a caller may allow.
-const LARGEST_CEILING: usize = 63;
+use meaning::limits;
 
 // The words of the rows of N symbols, for the largest N: two words a row.
-const WORDS: usize = 256;
+const WORDS: usize = 2 * limits::POSITIONS;
 
 // N, 2 to the n.
 fn size_of(n: usize) -> usize
@@ -75,7 +73,7 @@ fn decode_in(
     if !meaning::is_done(b) {
         return b;
     }
-    if LARGEST_CEILING < ceiling {
+    if limits::LARGEST_CEILING < ceiling {
         return Answer::BadCeiling;
     }
     let k = size * 2;

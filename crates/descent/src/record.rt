@@ -10,7 +10,7 @@ pub fn byte_at(sheet: &[u8], i: usize, k: usize) -> u8
     requires { ⌜ (k < recordBytes) × ((i + 1) * recordBytes ≤ length (now sheet)) ⌝ }
     ensures { λ r. ⌜ r ≡ byte (now (sheet .entry)) i k ⌝ }
 {
-    sheet[i * counting::RECORD + k]
+    sheet[i * meaning::limits::RECORD + k]
 }
 
 // Whether record i names position j: bit j mod 8 of byte 4 + j div 8.

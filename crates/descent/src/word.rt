@@ -113,7 +113,7 @@ pub fn run(
     requires { ⌜ unknowns n (rules n (now sheet)) (now word) ≤ 64 * c ⌝ }
     ensures { λ r. ⌜ Filled n w (found n (now (sheet .entry)) (now (word .entry)) c w) (now (vals .exit)) (now (us .exit)) (now (eqs .exit)) r ⌝ }
 {
-    let mut marks: [u8; counting::POSITIONS] = [0; counting::POSITIONS];
+    let mut marks: [u8; meaning::limits::POSITIONS] = [0; meaning::limits::POSITIONS];
     let size = word.len();
     decode_all(n, sheet, word, c, w, vals, &mut marks[..size], us, eqs)
 }

@@ -8,11 +8,11 @@ ghost use Rattle.meaning.specs.Limits.{recordBytes};
 ghost use Rattle.meaning.specs.Sheet.{ruleAt, frees};
 ghost use Rattle.meaning.specs.Answers.{checking, wording};
 
-pub mod limits;
 mod sheet;
 mod word;
 
 use meaning::Answer;
+use meaning::limits;
 
 // Checks a sheet of N = 2 to the n records, with its check length r.
 // Answers Done, or BadShape (11: n above 7, or not 20N bytes), BadRecord (12: the place of the first record that breaks

@@ -9,7 +9,7 @@ ghost use Rattle.meaning.specs.Limits.{largestN, recordBytes, maskBytes};
 ghost use Rattle.meaning.specs.Sheet.{byte, names, fine};
 ghost use Rattle.meaning.specs.Answers.{badCheck};
 ghost use Rattle.form.specs.Records.{headFine, barred};
-use crate::limits;
+use meaning::limits;
 
 // N, 2 to the n.
 pub fn size_of(n: usize) -> usize

@@ -2,6 +2,8 @@
 ghost use mathlib.Core.Path.{_≡_};
 ghost use Rattle.meaning.specs.Answers.{numbersOf, isDone};
 
+pub mod limits;
+
 // An answer: one case for each row of 01's table, and `Done`, the 0 of the calls that have no verdict.
 pub enum Answer {
     // 0: the call did its work.

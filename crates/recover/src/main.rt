@@ -9,27 +9,22 @@ ghost use Rattle.recover.specs.Runs.{Ready};
 use libc::STDERR_FILENO;
 use libc::STDIN_FILENO;
 use libc::STDOUT_FILENO;
+use meaning::limits;
 
 // One byte more than the longest sheet, so that a longer file is seen.
-const SHEET: usize = 20 * 128 + 1;
+const SHEET: usize = limits::RECORD * limits::POSITIONS + 1;
 
 // One byte more than a choice.
 const CHOICE: usize = 3;
-
-// The largest n.
-const LARGEST_N: usize = 7;
 
 // The words of a run.
 const RUN: usize = 128;
 
 // The bytes of the longest run.
-const INPUT: usize = RUN * 128;
-
-// The bytes of an answer record.
-const ANSWER: usize = 392;
+const INPUT: usize = RUN * limits::POSITIONS;
 
 // The bytes of the records of a run.
-const OUTPUT: usize = RUN * ANSWER;
+const OUTPUT: usize = RUN * limits::ANSWER;
 
 // Whether the file has been read to its end.
 fn ended(fd: i32) -> bool {
@@ -72,7 +67,7 @@ fn answer(sheet: &[u8], choice: &[u8], input: &[u8], out: &mut [u8]) -> bool
 {
     let k = stream::records(sheet, choice, input);
     stream::answer(sheet, choice, input, out);
-    write(&out[0..k * ANSWER])
+    write(&out[0..k * limits::ANSWER])
 }
 
 // Reads a run of words and answers it; answers whether to go on.
@@ -99,7 +94,7 @@ fn serve(sheet: &[u8], choice: &[u8], input: &mut [u8], out: &mut [u8])
     requires { ⌜ (length (now input) ≡ 16384) × (length (now out) ≡ 50176) ⌝ }
 {
     let n = stream::size(sheet);
-    if LARGEST_N < n {
+    if limits::LARGEST_N < n {
         answer(sheet, choice, &input[0..0], out);
     } else if choice.len() != 2 {
         answer(sheet, choice, &input[0..0], out);

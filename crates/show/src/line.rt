@@ -34,7 +34,11 @@ fn too_many(g: u8) -> bool {
 fn refusal(code: u8, place: u8, g: u8) -> bool {
     match code {
         11 => text::say(b"refused 11    the sheet is not 20 N bytes long for an N up to 128"),
-        12 => at(b"refused 12    record ", place, b" of the sheet breaks a rule"),
+        12 => at(
+            b"refused 12    record ",
+            place,
+            b" of the sheet breaks a rule",
+        ),
         13 => text::say(
             b"refused 13    choice.bin is not two bytes, or its check length is not 0, 6 or 11, or leaves no payload",
         ),
@@ -48,40 +52,40 @@ fn refusal(code: u8, place: u8, g: u8) -> bool {
 }
 
 // The three strips of an ambiguous word.
-fn strips(record: &[u8]) -> bool
-    requires { ⌜ length (now record) ≡ 392 ⌝ }
+fn strips(answer: &[u8]) -> bool
+    requires { ⌜ length (now answer) ≡ 392 ⌝ }
 {
     text::say(b"  settled ")
-        && text::strip(&record[8..136])
+        && text::strip(&answer[8..136])
         && text::say(b"  first ")
-        && text::strip(&record[136..264])
+        && text::strip(&answer[136..264])
         && text::say(b"  last ")
-        && text::strip(&record[264..392])
+        && text::strip(&answer[264..392])
 }
 
 // What a record says: the verdict, or a refusal.
-fn said(record: &[u8]) -> bool
-    requires { ⌜ length (now record) ≡ 392 ⌝ }
+fn said(answer: &[u8]) -> bool
+    requires { ⌜ length (now answer) ≡ 392 ⌝ }
 {
-    let g = record[2];
-    let m = record[3];
-    let d = record[4];
-    match record[0] {
+    let g = answer[2];
+    let m = answer[3];
+    let d = answer[4];
+    match answer[0] {
         0 => {
             text::say(b"unique        ")
                 && counts(g, m, d)
                 && text::say(b"  ")
-                && text::strip(&record[8..136])
+                && text::strip(&answer[8..136])
         }
-        1 => text::say(b"ambiguous     ") && counts(g, m, d) && strips(record),
+        1 => text::say(b"ambiguous     ") && counts(g, m, d) && strips(answer),
         2 => text::say(b"inconsistent  ") && counts(g, m, d),
-        code => refusal(code, record[1], g),
+        code => refusal(code, answer[1], g),
     }
 }
 
 // The line of record n, counted from 1.
-pub fn line(n: u64, record: &[u8]) -> bool
-    requires { ⌜ length (now record) ≡ 392 ⌝ }
+pub fn line(n: u64, answer: &[u8]) -> bool
+    requires { ⌜ length (now answer) ≡ 392 ⌝ }
 {
-    text::number(n, 6) && text::say(b"  ") && said(record) && text::say(b"\n")
+    text::number(n, 6) && text::say(b"  ") && said(answer) && text::say(b"\n")
 }

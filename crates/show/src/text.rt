@@ -4,26 +4,27 @@ ghost use Prim.Native.Nat.{_≤_};
 ghost use lib.ListN.{length, take};
 ghost use Rattle.show.specs.Digits.{shown, digitOf};
 use libc::STDOUT_FILENO;
-
-// The bytes of a strip.
-const WIDTH: usize = 128;
+use meaning::limits;
 
 // Writes s.
 pub fn say(s: &[u8]) -> bool {
     io::write_all(STDOUT_FILENO, s)
 }
 
+// Writes the spaces that make a text of k characters `width` wide, at most 8.
+fn pad(k: usize, width: usize) -> bool {
+    let spaces = [b' '; 8];
+    if k < width && width <= 8 {
+        return say(&spaces[0..width - k]);
+    }
+    true
+}
+
 // Writes a number with as many spaces before it as make `width` places, at most 8.
 pub fn number(n: u64, width: usize) -> bool {
     let mut text = [0u8; 20];
     let k = io::decimal(n, &mut text);
-    if k < width {
-        if width <= 8 {
-            let spaces = b"        ";
-            return say(&spaces[0..width - k]) && say(&text[0..k]);
-        }
-    }
-    say(&text[0..k])
+    pad(k, width) && say(&text[0..k])
 }
 
 // A symbol as a digit; what is none, as a question mark.
@@ -53,7 +54,7 @@ fn digits(strip: &[u8], text: &mut [u8]) -> usize
 pub fn strip(s: &[u8]) -> bool
     requires { ⌜ length (now s) ≡ 128 ⌝ }
 {
-    let mut text = [0u8; WIDTH];
+    let mut text = [0u8; limits::WIDTH];
     let k = digits(s, &mut text);
     say(&text[0..k])
 }

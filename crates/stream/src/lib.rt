@@ -9,10 +9,18 @@ ghost use Rattle.meaning.specs.Limits.{largestN};
 ghost use Rattle.meaning.specs.Answers.{leaving};
 ghost use Rattle.meaning.specs.Stream.{answerBytes, answerRecord, sizeOf, roundedUp, wordAt, records, streaming};
 
-mod limits;
 mod record;
 
 use meaning::Answer;
+use meaning::limits;
+
+// N, 2 to the n.
+fn size_of(n: usize) -> usize
+    requires { ⌜ n ≤ largestN ⌝ }
+    ensures { λ r. ⌜ r ≡ 2 ^ n ⌝ }
+{
+    1 << n
+}
 
 // The n of a sheet of N = 2 to the n records, from its length; 8 where no n up to 7 has such a sheet.
 pub fn size(sheet: &[u8]) -> usize
@@ -20,7 +28,7 @@ pub fn size(sheet: &[u8]) -> usize
 {
     let mut n = 0;
     while n <= limits::LARGEST_N {
-        if sheet.len() == limits::size_of(n) * limits::RECORD {
+        if sheet.len() == size_of(n) * limits::RECORD {
             return n;
         }
         n += 1;
@@ -48,7 +56,7 @@ pub fn records(sheet: &[u8], choice: &[u8], input: &[u8]) -> usize
     if choice.len() != 2 {
         return 1;
     }
-    rounded_up(input.len(), limits::size_of(n))
+    rounded_up(input.len(), size_of(n))
 }
 
 // Where word i ends.
@@ -65,7 +73,7 @@ fn words(n: usize, sheet: &[u8], r: usize, ceiling: usize, input: &[u8], k: usiz
     requires { ⌜ (n ≤ largestN) × (k ≡ roundedUp (length (now input)) (2 ^ n)) × (k * answerBytes ≤ length (now out)) ⌝ }
     ensures { λ _. ⌜ now (out .exit) ≡ flatten (tab k (λ (i : ℕ). answerRecord n (now (sheet .entry)) r ceiling (wordAt n (now (input .entry)) i))) ++ drop (k * answerBytes) (now (out .entry)) ⌝ }
 {
-    let size = limits::size_of(n);
+    let size = size_of(n);
     let mut i = 0;
     while i < k {
         let at = i * size;

@@ -6,8 +6,9 @@ ghost use lib.ListN.{length, replicate};
 ghost use Rattle.meaning.specs.Limits.{largestN, stripWidth};
 ghost use Rattle.meaning.specs.Stream.{header, answerBytes, answerRecord, refusedRecord};
 ghost use Rattle.stream.specs.Laying.{Small, laid};
-use crate::limits;
+use crate::size_of;
 use meaning::Answer;
+use meaning::limits;
 
 // The first eight bytes: code, place, g, m, d, three zeros. Each number fits a byte.
 fn head(a: Answer) -> [u8; limits::HEAD]
@@ -82,7 +83,7 @@ fn answer_in(
     ensures { λ _. ⌜ now (out .exit) ≡ answerRecord n (now (sheet .entry)) r ceiling (now (word .entry)) ⌝ }
 {
     let a = decoder::decode(n, sheet, r, ceiling, word, found);
-    lay(found, limits::size_of(n), strips);
+    lay(found, size_of(n), strips);
     put(a, strips, out);
 }
 
@@ -93,7 +94,7 @@ pub fn answer(n: usize, sheet: &[u8], r: usize, ceiling: usize, word: &[u8], out
 {
     let mut found = blank();
     let mut strips = blank();
-    let size = limits::size_of(n);
+    let size = size_of(n);
     answer_in(
         n,
         sheet,

@@ -1,8 +1,8 @@
 use native.Mathlib.Omega.{arith}
 use Rattle.meaning.specs.Limits.{largestN}
-use Rattle.codec.proofs.Records.{shl-one}
-use Rattle.stream.proofs.limits.size_of.Statement.{statement}
-use Rattle.stream.proofs.limits.size_of.Tie as tie
+use Rattle.form.proofs.Records.{shl-one}
+use Rattle.stream.proofs.size_of.Statement.{statement}
+use Rattle.stream.proofs.size_of.Tie as tie
 
 shl-result : tie.Need-shl-result
 unfolding largestN

@@ -1,0 +1,29 @@
+// The numbers of 01 that the code of every crate takes from here. The proofs tie each to its definition in specs/Limits, so
+// that one that is left behind is refused.
+
+// N = 2 to the n symbols, n from 0 to this.
+pub const LARGEST_N: usize = 7;
+
+// Bytes of a record's mask.
+pub const MASK: usize = 16;
+
+// Bytes of a record of the sheet.
+pub const RECORD: usize = 4 + MASK;
+
+// The most positions: one for each bit of a mask.
+pub const POSITIONS: usize = 8 * MASK;
+
+// The ceiling on unknowns is 0 to this.
+pub const LARGEST_CEILING: usize = 63;
+
+// Bytes of a strip of an answer record.
+pub const WIDTH: usize = 128;
+
+// Bytes of an answer record before its strips.
+pub const HEAD: usize = 8;
+
+// Bytes of the strips of an answer record.
+pub const STRIPS: usize = 3 * WIDTH;
+
+// Bytes of an answer record.
+pub const ANSWER: usize = HEAD + STRIPS;
