@@ -1,1 +1,2 @@
 -- Shown: a strip's digits, one after the other.
+pub mod Shown
