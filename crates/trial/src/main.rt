@@ -50,6 +50,7 @@ fn call(
         1 => Reply::Answered(codec::encode(n, a, r, b, out)),
         2 => Reply::Answered(decoder::decode(n, a, r, ceiling, b, out)),
         3 => Reply::Answered(codec::read_back(n, a, r, b, out)),
+        4 => Reply::Answered(stream::answer(a, c, b, out)),
         _ => Reply::Unknown,
     }
 }

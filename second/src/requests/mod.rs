@@ -12,7 +12,7 @@ mod stream;
 use crate::protocol::Request;
 
 /// The ops that go into the vectors, in their order.
-pub const OPS: [u16; 4] = [0, 1, 2, 3];
+pub const OPS: [u16; 5] = [0, 1, 2, 3, 4];
 
 /// Every request of the vectors, in its order.
 pub fn all() -> Vec<Request> {

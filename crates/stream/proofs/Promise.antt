@@ -1,0 +1,143 @@
+-- What follows from the promise of `answer`: of any answer a, and bytes x of the output after the call.
+--     stream-determined               any two results that the promise allows are equal
+--     short-untouched, room-done      16 exactly where the output is too short, and then nothing is touched
+--     record-count                    as many records as input bytes divided by N, rounded up
+--     record-at                       record k, at byte 392k, is the answer to word k
+--     alone                           record k depends on word k alone
+--     cut                             an input cut at a multiple of N: the parts, answered one after the other, give the same bytes
+use mathlib.Core.Path.{_≡_, refl, sym, ap, ap₂, subst, _∙_}
+use Prim.Native.Nat.{ℕ, zero, suc, _+_, _-_, _*_, _/_, _^_, _≤_, _<_}
+use native.Mathlib.Omega.{arith}
+use native.Mathlib.Nat.{mul-add-div-right, div-eq-of-lt, add-zero, add-mul}
+use mathlib.Core.Bool.{Bool, true, false, true≢false}
+use mathlib.Core.List.{List, [], _∷_, _++_, flatten}
+use lib.ListN.{length, take, drop, getD, length-append, length-drop}
+use lib.Dec.{ltb}
+use borrow.Author.Tests.{lt-ltb, le-ltb}
+use lib.Pow.{pow-pos}
+use lib.Seq.{take-append-le, drop-append-le, drop-append-add, take-at}
+use Rattle.bits.specs.Vectors.{tab, pick}
+use Rattle.bits.specs.Rows.{row, rows}
+use Rattle.bits.proofs.Tests.{length-tab, tab-at, tab-append, tab-below}
+use Rattle.bits.proofs.RowLaws.{row-fit, rows-front, length-flatten}
+use Rattle.meaning.specs.Limits.{largestN}
+use Rattle.meaning.specs.Answers.{Reply, isDone, leaving, writing}
+use Rattle.meaning.specs.Stream.{answerBytes, answerRecord, sizeOf, roundedUp, wordAt, records, streaming}
+use Rattle.meaning.specs.declared.Answer.{Answer}
+use Rattle.meaning.specs.declared.Answer.the-variants.{Done, ShortOutput}
+use Rattle.meaning.proofs.Determined.{reply-determined}
+use Rattle.stream.proofs.Counting.{records-words}
+use Rattle.stream.proofs.Streaming.{recordAt, records-wide, flatten-append}
+
+pub stream-determined : (s ch input out x x′ : List ℕ) (a a′ : Answer) → leaving x a ≡ streaming s ch input out → leaving x′ a′ ≡ streaming s ch input out → (a ≡ a′) × (x ≡ x′)
+stream-determined s ch input out x x′ a a′ p q = reply-determined a a′ x x′ (streaming s ch input out) p q
+
+-- ---- the words of an input
+
+module _ (n : ℕ) (a b : List ℕ) (m : ℕ) (la : length a ≡ m * 2 ^ n) where
+  -- a word of the first part
+  pub word-front : (i : ℕ) → i < m → wordAt n (a ++ b) i ≡ wordAt n a i
+  unfolding wordAt
+  word-front i h =
+      let l : i * 2 ^ n + 2 ^ n ≤ length a = omega (arith, la, row-fit i m (2 ^ n) h) in
+      ap (take (2 ^ n)) (drop-append-le (i * 2 ^ n) a b (omega arith)) ∙ take-append-le (2 ^ n) (drop (i * 2 ^ n) a) b (simp length-drop (omega arith))
+
+  -- a word of the second part
+  pub word-back : (i : ℕ) → wordAt n (a ++ b) (m + i) ≡ wordAt n b i
+  unfolding wordAt
+  word-back i =
+      let e : (m + i) * 2 ^ n ≡ length a + i * 2 ^ n = omega (arith, la, (let q : (m + i) * 2 ^ n ≡ m * 2 ^ n + i * 2 ^ n = add-mul m i (2 ^ n) in q)) in
+      ap (λ (k : ℕ). take (2 ^ n) (drop k (a ++ b))) e ∙ ap (take (2 ^ n)) (drop-append-add a b (i * 2 ^ n))
+
+  pub count-cut : roundedUp (length (a ++ b)) (2 ^ n) ≡ m + roundedUp (length b) (2 ^ n)
+  unfolding roundedUp
+  count-cut =
+      let p : 0 < 2 ^ n = omega (arith, pow-pos n) in
+      let e : length (a ++ b) + (2 ^ n - 1) ≡ m * 2 ^ n + (length b + (2 ^ n - 1)) = ap (λ (k : ℕ). k + (2 ^ n - 1)) (length-append a b) ∙ omega (arith, la) in
+      ap (λ (k : ℕ). k / 2 ^ n) e ∙ mul-add-div-right p m (length b + (2 ^ n - 1))
+
+  pub count-whole : roundedUp (length a) (2 ^ n) ≡ m
+  unfolding roundedUp
+  count-whole =
+      let p : 0 < 2 ^ n = omega (arith, pow-pos n) in
+      let l : 2 ^ n - 1 < 2 ^ n = omega arith in
+      ap (λ (k : ℕ). (k + (2 ^ n - 1)) / 2 ^ n) la ∙ mul-add-div-right p m (2 ^ n - 1) ∙ ap (λ (k : ℕ). m + k) (div-eq-of-lt l) ∙ add-zero m
+
+-- ---- the records of an input whose sheet and choice have a right length
+
+module _ (s ch : List ℕ) (h : sizeOf s ≤ largestN) (two : length ch ≡ 2) where
+  abbrev n : ℕ
+  n = sizeOf s
+
+  -- the answer to a word
+  abbrev pub answerTo : List ℕ → List ℕ
+  answerTo w = answerRecord n s (getD ch 0 0) (getD ch 1 0) w
+
+  pub record-count : (input : List ℕ) → length (records s ch input) ≡ roundedUp (length input) (2 ^ n)
+  record-count input = ap length (records-words s ch input h two) ∙ length-tab (roundedUp (length input) (2 ^ n)) (recordAt n s (getD ch 0 0) (getD ch 1 0) input)
+
+  -- two parts, the first of whole words
+  pub records-cut : (a b : List ℕ) (m : ℕ) → length a ≡ m * 2 ^ n → records s ch (a ++ b) ≡ records s ch a ++ records s ch b
+  records-cut a b m la =
+      let f : ℕ → List ℕ = recordAt n s (getD ch 0 0) (getD ch 1 0) (a ++ b) in
+      let fa : ℕ → List ℕ = recordAt n s (getD ch 0 0) (getD ch 1 0) a in
+      let fb : ℕ → List ℕ = recordAt n s (getD ch 0 0) (getD ch 1 0) b in
+      let kb : ℕ = roundedUp (length b) (2 ^ n) in
+      let ea : records s ch a ≡ tab m fa = records-words s ch a h two ∙ ap (λ (k : ℕ). tab k fa) (count-whole n a b m la) in
+      records-words s ch (a ++ b) h two ∙ ap (λ (k : ℕ). tab k f) (count-cut n a b m la) ∙ tab-append m kb f
+      ∙ ap₂ {C = List (List ℕ)} _++_ (tab-below m f fa (λ i l. ap answerTo (word-front n a b m la i l)) ∙ sym ea) (tab-below kb (λ (i : ℕ). f (m + i)) fb (λ i l. ap answerTo (word-back n a b m la i)) ∙ sym (records-words s ch b h two))
+
+  -- ---- any result that is done
+
+  -- the bytes of the records, and later bytes as found
+  pub written : (input out x : List ℕ) → leaving x Done ≡ streaming s ch input out → x ≡ flatten (records s ch input) ++ drop (length (flatten (records s ch input))) out
+  unfolding streaming
+  written input out x p = go (ltb (length out) (length (records s ch input) * answerBytes)) p
+    where
+      go : (b : Bool) → leaving x Done ≡ pick b (leaving out ShortOutput) (writing (flatten (records s ch input)) out Done) → x ≡ flatten (records s ch input) ++ drop (length (flatten (records s ch input))) out
+      go true q = absurd (true≢false (ap (λ (t : Reply). isDone (t .answer)) q))
+      go false q = ap (λ (t : Reply). t .bytes) q
+
+  pub record-at : (input out x : List ℕ) → leaving x Done ≡ streaming s ch input out → (k : ℕ) → k < roundedUp (length input) (2 ^ n) → row answerBytes x k ≡ answerTo (wordAt n input k)
+  record-at input out x p k l =
+      let K : ℕ = length (records s ch input) in
+      let e : rows answerBytes K x ≡ records s ch input = ap (rows answerBytes K) (written input out x p) ∙ rows-front answerBytes (records s ch input) _ (records-wide s ch input) in
+      let lk : k < K = omega (arith, l, record-count input) in
+      sym (tab-at K (row answerBytes x) k [] lk) ∙ ap (λ (r : List (List ℕ)). getD r k []) (e ∙ records-words s ch input h two)
+      ∙ tab-at (roundedUp (length input) (2 ^ n)) (recordAt n s (getD ch 0 0) (getD ch 1 0) input) k [] l
+
+  -- two inputs with the same word k have the same record there
+  pub alone : (input out x input′ out′ x′ : List ℕ) → leaving x Done ≡ streaming s ch input out → leaving x′ Done ≡ streaming s ch input′ out′
+      → (k : ℕ) → k < roundedUp (length input) (2 ^ n) → k < roundedUp (length input′) (2 ^ n) → wordAt n input k ≡ wordAt n input′ k → row answerBytes x k ≡ row answerBytes x′ k
+  alone input out x input′ out′ x′ p p′ k l l′ e = record-at input out x p k l ∙ ap answerTo e ∙ sym (record-at input′ out′ x′ p′ k l′)
+
+  -- the bytes of the records of an input
+  abbrev pub recordBytesOf : List ℕ → List ℕ → List ℕ
+  recordBytesOf input x = take (roundedUp (length input) (2 ^ n) * answerBytes) x
+
+  records-bytes : (input out x : List ℕ) → leaving x Done ≡ streaming s ch input out → recordBytesOf input x ≡ flatten (records s ch input)
+  records-bytes input out x p =
+      let l : length (flatten (records s ch input)) ≡ roundedUp (length input) (2 ^ n) * answerBytes = length-flatten answerBytes (records s ch input) (records-wide s ch input) ∙ ap (λ (k : ℕ). k * answerBytes) (record-count input) in
+      ap (recordBytesOf input) (written input out x p) ∙ take-at (flatten (records s ch input)) _ _ l
+
+  -- an input cut behind m whole words: the parts, answered one after the other, give the same bytes
+  pub cut : (a b : List ℕ) (m : ℕ) → length a ≡ m * 2 ^ n → (out x outa xa outb xb : List ℕ)
+      → leaving x Done ≡ streaming s ch (a ++ b) out → leaving xa Done ≡ streaming s ch a outa → leaving xb Done ≡ streaming s ch b outb
+      → recordBytesOf (a ++ b) x ≡ recordBytesOf a xa ++ recordBytesOf b xb
+  cut a b m la out x outa xa outb xb p pa pb =
+      records-bytes (a ++ b) out x p ∙ ap flatten (records-cut a b m la) ∙ flatten-append (records s ch a) (records s ch b)
+      ∙ ap₂ {C = List ℕ} _++_ (sym (records-bytes a outa xa pa)) (sym (records-bytes b outb xb pb))
+
+-- ---- a result that is not done
+
+-- too short an output is refused, and nothing is touched
+pub short-untouched : (s ch input out x : List ℕ) (a : Answer) → leaving x a ≡ streaming s ch input out → length out < length (records s ch input) * answerBytes → (a ≡ ShortOutput) × (x ≡ out)
+unfolding streaming
+short-untouched s ch input out x a p l =
+    let q : leaving x a ≡ leaving out ShortOutput = p ∙ rw (lt-ltb (length out) (length (records s ch input) * answerBytes) l) in
+    (ap (λ (t : Reply). t .answer) q, ap (λ (t : Reply). t .bytes) q)
+
+-- and else it is done
+pub room-done : (s ch input out x : List ℕ) (a : Answer) → leaving x a ≡ streaming s ch input out → length (records s ch input) * answerBytes ≤ length out → a ≡ Done
+unfolding streaming
+room-done s ch input out x a p l = ap (λ (t : Reply). t .answer) p ∙ rw (le-ltb (length out) (length (records s ch input) * answerBytes) l)
