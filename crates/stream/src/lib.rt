@@ -76,7 +76,7 @@ fn words(n: usize, sheet: &[u8], r: usize, ceiling: usize, input: &[u8], k: usiz
     let size = size_of(n);
     let mut i = 0;
     while i < k {
-        let at = i * size;
+        let from = i * size;
         let end = end_of(i, size, input.len());
         let to = i * limits::ANSWER;
         record::answer(
@@ -84,7 +84,7 @@ fn words(n: usize, sheet: &[u8], r: usize, ceiling: usize, input: &[u8], k: usiz
             sheet,
             r,
             ceiling,
-            &input[at..end],
+            &input[from..end],
             &mut out[to..to + limits::ANSWER],
         );
         i += 1;

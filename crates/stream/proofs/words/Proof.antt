@@ -26,8 +26,8 @@ loop-holds : tie.Need-loop-holds Inv-loop μ-loop
 unfolding flatten
 loop-holds c = (omega arith, refl, refl)
 
-mul-at : tie.Need-mul-at Inv-loop μ-loop
-mul-at c = omega (arith, begins (length (c .before .before .before .before .before .before .args .input .now)) (c .before .before .size-of .result) (c .before .before .before .before .before .before .args .n) (c .before .loop .i) (c .before .before .before .before .before .before .args .k) (c .before .before .size-of .ensures) (c .before .before .before .before .before .before .pre .1) (c .loop-test .taken))
+mul-from : tie.Need-mul-from Inv-loop μ-loop
+mul-from c = omega (arith, begins (length (c .before .before .before .before .before .before .args .input .now)) (c .before .before .size-of .result) (c .before .before .before .before .before .before .args .n) (c .before .loop .i) (c .before .before .before .before .before .before .args .k) (c .before .before .size-of .ensures) (c .before .before .before .before .before .before .pre .1) (c .loop-test .taken))
 
 end-of-requires : tie.Need-end-of-requires Inv-loop μ-loop
 end-of-requires c κs = omega (arith, begins (length (c .before .before .before .before .before .before .args .input .now)) (c .before .before .size-of .result) (c .before .before .before .before .before .before .args .n) (c .before .loop .i) (c .before .before .before .before .before .before .args .k) (c .before .before .size-of .ensures) (c .before .before .before .before .before .before .pre .1) (c .loop-test .taken))
@@ -98,7 +98,7 @@ words-spec =
     μ-loop
     size-of-requires
     loop-holds
-    mul-at
+    mul-from
     end-of-requires
     mul-to
     sub-answer
