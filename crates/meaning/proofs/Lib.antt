@@ -11,7 +11,7 @@
 --     Refusals, Forms           tables of refusals; what is known where none applies
 --     Demands                   demands 2 and 3 of `decoding`
 --     ReadBack                  encoding and read-back; the round trip
---     Determined                a promise allows one result
+--     Determined                a promise allows one result; what is refused leaves the buffer as found
 --     Bench                     the starred examples
 pub mod Polar
 pub mod Formula

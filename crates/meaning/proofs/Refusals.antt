@@ -3,6 +3,7 @@
 --     first-append     a table may be tried in two parts
 --     tried-done, tried-refused     a table tried by itself, before more rows
 --     done-none        a call that answers Done was refused by no row
+--     refused-untouched     a call that a row refuses leaves its buffer as found
 use mathlib.Core.Path.{_≡_, refl, sym, ap, _∙_}
 use Prim.Native.Nat.{ℕ}
 use mathlib.Core.Bool.{Bool, true, false, _&&_, _||_, not, false≢true, true≢false}
@@ -81,3 +82,12 @@ done-none out ts z h d = go (isDone (tried ts)) refl
     go : (b : Bool) → isDone (tried ts) ≡ b → refuses ts ≡ false
     go true e = tried-done ts h e
     go false e = absurd (false≢true (sym e ∙ ap (λ (a : Reply). isDone (a .answer)) (sym (tried-all (leaving out) ts z e)) ∙ d))
+
+-- a call that a row refuses leaves its buffer as found
+pub refused-untouched : (out : List ℕ) (ts : List Refusal) (z : Reply) → refuses ts ≡ true → (firstOf (leaving out) ts z) .bytes ≡ out
+refused-untouched out [] z h = absurd (false≢true h)
+refused-untouched out (t ∷ ts) z h = go (t .applies) h (refused-untouched out ts z)
+  where
+    go : (b : Bool) → b || refuses ts ≡ true → (refuses ts ≡ true → (firstOf (leaving out) ts z) .bytes ≡ out) → (pick b (leaving out (t .answer)) (firstOf (leaving out) ts z)) .bytes ≡ out
+    go true k g = refl
+    go false k g = g k
