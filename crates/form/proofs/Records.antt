@@ -1,6 +1,6 @@
 -- A record is fine exactly when its head is and it names no position from the first barred one on; the count of free records, one by one.
 use mathlib.Core.Path.{_≡_, refl, sym, ap, _∙_}
-use Prim.Native.Nat.{ℕ, zero, suc, _+_, _*_, _/_, _%_, _^_, _<_, _≤_}
+use Prim.Native.Nat.{ℕ, zero, suc, _+_, _-_, _*_, _/_, _%_, _^_, _<_, _≤_}
 use native.Mathlib.Omega.{arith}
 use native.Mathlib.Nat.{one-mul, mod-eq-of-lt}
 use native.Mathlib.Numerals.{add-one}
@@ -13,10 +13,12 @@ use lib.Pow.{pow-lt}
 use borrow.Author.Tests.{le-leb, lt-leb, eq-eqb, ne-eqb}
 use Rattle.bits.specs.Vectors.{pick, tab, zeros, firstPlace}
 use Rattle.bits.proofs.Tests.{length-tab, tab-at, place-found, place-next, place-end, all-fails, all-next, all-end}
+use Rattle.bits.specs.Words.{bitAt}
+use Rattle.bits.proofs.WordBits.{zero-bit}
 use Rattle.meaning.specs.Limits.{maskBytes, recordBytes}
 use Rattle.meaning.specs.Sheet.{byte, names, mask, fine, Rule, free, frozen, frees, ruleAt}
 use Rattle.meaning.specs.Answers.{badCheck}
-use Rattle.form.specs.Records.{headFine, barred}
+use Rattle.form.specs.Records.{headFine, barred, Passed}
 
 and-false : (a : Bool) → a && false ≡ false
 and-false true = refl
@@ -91,6 +93,31 @@ module _ (s : List ℕ) (i : ℕ) where
 
   pub not-named : (j : ℕ) → j < 8 * maskBytes → names s i j ≡ false → zeros (drop j (mask s i)) ≡ zeros (drop (j + 1) (mask s i))
   not-named j h e = rw add-one (all-next not (mask s i) j false (omega (arith, length-mask)) (ap not (mask-at j h ∙ e)))
+
+  -- several positions passed over at once
+  pub none-named : (k j : ℕ) → j + k ≤ 8 * maskBytes → ((t : ℕ) → t < k → names s i (j + t) ≡ false) → zeros (drop j (mask s i)) ≡ zeros (drop (j + k) (mask s i))
+  none-named zero j h f = ap (λ (x : ℕ). zeros (drop x (mask s i))) (let e : j ≡ j + 0 = omega arith in e)
+  none-named (suc k) j h f =
+      let a : names s i j ≡ false = ap (names s i) (let e : j ≡ j + 0 = omega arith in e) ∙ f 0 (omega arith) in
+      let g : (t : ℕ) → t < k → names s i (j + 1 + t) ≡ false = λ t l. ap (names s i) (let e : j + 1 + t ≡ j + suc t = omega arith in e) ∙ f (suc t) (omega arith) in
+      not-named j (omega arith) a ∙ none-named k (j + 1) (omega arith) g ∙ ap (λ (x : ℕ). zeros (drop x (mask s i))) (let e : j + 1 + k ≡ j + suc k = omega arith in e)
+
+  -- a byte of zero names nothing
+  pub byte-passed : (j : ℕ) → j < 8 * maskBytes → byte s i (4 + j / 8) ≡ 0 → Passed s i j (8 - j % 8)
+  unfolding names
+  byte-passed j h e = record {
+    unnamed = λ t l.
+        let q : (j + t) / 8 ≡ j / 8 = omega arith in
+        ap (λ (x : ℕ). eqb (bitAt (byte s i (4 + x)) ((j + t) % 8)) 1) q ∙ ap (λ (x : ℕ). eqb (bitAt x ((j + t) % 8)) 1) e ∙ zero-bit ((j + t) % 8);
+    within = omega arith;
+    stopped = λ z. absurd (omega arith);
+  }
+
+  pub one-passed : (j : ℕ) → j < 8 * maskBytes → names s i j ≡ false → Passed s i j 1
+  one-passed j h e = record { unnamed = λ t l. ap (names s i) (let q : j + t ≡ j = omega arith in q) ∙ e; within = omega arith; stopped = λ z. absurd (omega arith) }
+
+  pub none-passed : (j : ℕ) → j < 8 * maskBytes → names s i j ≡ true → Passed s i j 0
+  none-passed j h e = record { unnamed = λ t l. absurd (omega arith); within = omega arith; stopped = λ z. e }
 
   pub mask-end : (j : ℕ) → 8 * maskBytes ≤ j → zeros (drop j (mask s i)) ≡ true
   mask-end j h = all-end not (mask s i) j (omega (arith, length-mask))

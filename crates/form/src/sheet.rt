@@ -8,7 +8,7 @@ ghost use Rattle.bits.specs.Vectors.{tab, firstPlace};
 ghost use Rattle.meaning.specs.Limits.{largestN, recordBytes, maskBytes};
 ghost use Rattle.meaning.specs.Sheet.{byte, names, fine};
 ghost use Rattle.meaning.specs.Answers.{badCheck};
-ghost use Rattle.form.specs.Records.{headFine, barred};
+ghost use Rattle.form.specs.Records.{headFine, barred, Passed};
 use meaning::limits;
 
 // N, 2 to the n.
@@ -34,6 +34,21 @@ fn has_name(sheet: &[u8], i: usize, j: usize) -> bool
 {
     let b = byte_at(sheet, i, 4 + j / 8);
     (b >> (j % 8)) % 2 == 1
+}
+
+// How many positions from j on are passed over at once: none where record i names j, the rest of j's byte where that byte
+// names nothing, else j alone.
+fn passed_from(sheet: &[u8], i: usize, j: usize) -> usize
+    requires { ⌜ (j < 8 * maskBytes) × ((i + 1) * recordBytes ≤ length (now sheet)) ⌝ }
+    ensures { λ r. ⌜ Passed (now (sheet .entry)) i j r ⌝ }
+{
+    if byte_at(sheet, i, 4 + j / 8) == 0 {
+        return 8 - j % 8;
+    }
+    if has_name(sheet, i, j) {
+        return 0;
+    }
+    1
 }
 
 // Whether the first four bytes of record i keep the rules for records.
@@ -74,10 +89,11 @@ pub fn first_bad(sheet: &[u8], size: usize) -> usize
         }
         let mut j = barred_from(sheet, i);
         while j < limits::POSITIONS {
-            if has_name(sheet, i, j) {
+            let passed = passed_from(sheet, i, j);
+            if passed == 0 {
                 break 'records;
             }
-            j += 1;
+            j += passed;
         }
         i += 1;
     }

@@ -8,7 +8,7 @@ use Rattle.bits.specs.Vectors.{zeros}
 use Rattle.meaning.specs.Limits.{recordBytes, maskBytes}
 use Rattle.meaning.specs.Sheet.{mask}
 use Rattle.form.specs.Records.{headFine, barred}
-use Rattle.form.proofs.Records.{Left, stops, goes-on, ends, head-bad, mask-bad, both-fine, named, not-named, mask-end}
+use Rattle.form.proofs.Records.{Left, stops, goes-on, ends, head-bad, mask-bad, both-fine, named, none-named, mask-end}
 use Rattle.form.proofs.sheet.first_bad.Statement.{statement}
 use Rattle.form.proofs.sheet.first_bad.Tie as tie
 
@@ -38,12 +38,13 @@ barred-from-requires c κs = omega arith
 loop-holds : tie.Need-loop-holds Inv-loop μ-loop Inv-records μ-records
 loop-holds c = (sym (c .before .before .head-fine .ensures) ∙ not-false _ (c .before .if1 .left), rw (c .barred-from .ensures))
 
-has-name-requires : tie.Need-has-name-requires Inv-loop μ-loop Inv-records μ-records
+passed-from-requires : tie.Need-passed-from-requires Inv-loop μ-loop Inv-records μ-records
 unfolding recordBytes maskBytes
-has-name-requires c κs = omega arith
+passed-from-requires c κs = omega arith
 
 add-j : tie.Need-add-j Inv-loop μ-loop Inv-records μ-records
-add-j c = omega arith
+unfolding maskBytes
+add-j c = omega (arith, c .before .passed-from .ensures .within)
 
 loop-less : tie.Need-loop-less Inv-loop μ-loop Inv-records μ-records
 loop-less c = omega arith
@@ -54,7 +55,8 @@ loop-again c =
     let call = c .before in
     let turn = call .before in
     let inv = turn .before .loop .inv in
-    (inv .0, sym (not-named _ _ _ (turn .loop-test .taken) (sym (call .has-name .ensures) ∙ c .if2 .left)) ∙ inv .1)
+    let passed = call .passed-from .ensures in
+    (inv .0, sym (none-named _ _ _ _ (passed .within) (passed .unnamed)) ∙ inv .1)
 
 add-i : tie.Need-add-i Inv-loop μ-loop Inv-records μ-records
 add-i c = omega arith
@@ -84,7 +86,7 @@ returns-3 c =
     let bit = call .before in
     let inv = bit .before .loop .inv in
     let turn = bit .before .before .before .before .before in
-    stops _ _ _ (turn .records-test .taken) (mask-bad _ _ (sym (inv .1) ∙ named _ _ _ (bit .loop-test .taken) (sym (call .has-name .ensures) ∙ c .if2 .taken))) (turn .before .records .inv .1)
+    stops _ _ _ (turn .records-test .taken) (mask-bad _ _ (sym (inv .1) ∙ named _ _ _ (bit .loop-test .taken) (call .passed-from .ensures .stopped (c .if2 .taken)))) (turn .before .records .inv .1)
 
 pub first-bad-spec : {M : Type 1} → statement M
 first-bad-spec =
@@ -98,7 +100,7 @@ first-bad-spec =
     head-fine-requires
     barred-from-requires
     loop-holds
-    has-name-requires
+    passed-from-requires
     add-j
     loop-less
     loop-again
