@@ -1,96 +1,131 @@
--- Decoding, where a refusal applies, and where none from 11 to 17 does.
---     decode-sheet, decode-word, decode-ceiling     refused: for the sheet, for the word, for the ceiling
---     formed, decode-formed                         not refused: what is known, and what is left to decide
+-- The refusals 11 to 17, and decoding where one applies and where none does.
+--     fault-sheet, fault-word, fault-ceiling, fault-none     the fault of form, test by test
+--     decode-refused                                         decoding is refused for it
+--     form-none                                              nothing is refused
+--     Passed, passed, decode-formed                          what is then known, and what is left to decide
 use mathlib.Core.Path.{_≡_, refl, sym, ap, _∙_}
-use Prim.Native.Nat.{ℕ, _*_, _^_, _≤_, _<_}
+use Prim.Native.Nat.{ℕ, _*_, _/_, _^_, _≤_, _<_}
 use native.Mathlib.Omega.{arith}
-use mathlib.Core.Bool.{Bool, true, false}
+use mathlib.Core.Bool.{Bool, true, false, _||_}
 use mathlib.Core.List.{List, [], _∷_, _++_, append-assoc}
 use lib.ListN.{length}
 use lib.Dec.{ltb}
-use borrow.Author.Tests.{lt-ltb, le-ltb}
-use Rattle.bits.specs.Vectors.{pick}
 use lib.Pow.{pow-mono}
-use Rattle.meaning.specs.Limits.{largestN, largestCeiling}
+use borrow.Author.Tests.{lt-ltb, le-ltb, ltb-false}
+use Rattle.bits.specs.Vectors.{pick}
+use Rattle.bits.proofs.Tests.{or-false-l}
+use Rattle.meaning.specs.Limits.{largestN, recordBytes, largestCeiling}
 use Rattle.meaning.specs.Sheet.{rules}
 use Rattle.meaning.specs.Codewords.{candidates}
 use Rattle.meaning.specs.Open.{unknowns, equations}
 use Rattle.meaning.specs.Answers.{Refusal, Reply, _⇒_, firstOf, isDone, checking, wording, refuses, sheetRefusals, wordRefusals, formRefusals, decodeRefusals, leaving, verdict, decoding}
 use Rattle.meaning.specs.declared.Answer.{Answer}
-use Rattle.meaning.specs.declared.Answer.the-variants.{BadCeiling, TooMany}
-use Rattle.meaning.proofs.Refusals.{tried-refused, past-none}
+use Rattle.meaning.specs.declared.Answer.the-variants.{Done, BadCeiling, TooMany}
+use Rattle.meaning.proofs.Refusals.{tried-done, tried-refused, past-none, none-append, both-none}
 use Rattle.meaning.proofs.Forms.{good, checked-none, worded, worded-none}
-use Rattle.decoder.specs.Deciding.{deciding, Formed}
+use Rattle.form.proofs.Records.{records-in}
+use Rattle.decoder.specs.Deciding.{decodeFault, deciding, Formed}
 
-module _ (n : ℕ) (s : List ℕ) (r c : ℕ) (w out : List ℕ) where
+-- ---- the fault of form
+
+module _ (n : ℕ) (s : List ℕ) (r c : ℕ) (w : List ℕ) (room : ℕ) where
   abbrev S : List Refusal
   S = sheetRefusals n s r
 
   abbrev W : List Refusal
-  W = wordRefusals (2 ^ n) 2 (3 * 2 ^ n) w (length out)
+  W = wordRefusals (2 ^ n) 2 (3 * 2 ^ n) w room
+
+  abbrev C : List Refusal
+  C = (ltb largestCeiling c ⇒ BadCeiling) ∷ []
+
+  table : decodeFault n s r c w room ≡ firstOf (λ (x : Answer). x) (S ++ (W ++ C)) Done
+  unfolding decodeFault
+  table = ap (λ (t : List Refusal). firstOf (λ (x : Answer). x) t Done) (append-assoc S W C)
+
+  module _ (a : Answer) (ea : a ≡ checking n s r) (b : Bool) (eb : b ≡ isDone a) where
+    pub fault-sheet : b ≡ false → a ≡ decodeFault n s r c w room
+    unfolding checking
+    fault-sheet t = ea ∙ sym (tried-refused (λ (x : Answer). x) S (W ++ C) Done (ap isDone (sym ea) ∙ sym eb ∙ t)) ∙ sym table
+
+    module _ (t : b ≡ true) (v : Answer) (ev : v ≡ wording (length s / recordBytes) 2 (3 * (length s / recordBytes)) w room) (d : Bool) (ed : d ≡ isDone v) where
+      sheet-none : refuses S ≡ false
+      sheet-none = checked-none n s r (ap isDone (sym ea) ∙ sym eb ∙ t)
+
+      -- N, in the value that the code has
+      meant : v ≡ wording (2 ^ n) 2 (3 * 2 ^ n) w room
+      meant = ev ∙ ap (λ (k : ℕ). wording k 2 (3 * k) w room) (records-in (length s) (2 ^ n) ((good n s r sheet-none) .long))
+
+      past-sheet : decodeFault n s r c w room ≡ firstOf (λ (x : Answer). x) (W ++ C) Done
+      past-sheet = table ∙ past-none (λ (x : Answer). x) S (W ++ C) Done sheet-none
+
+      pub fault-word : d ≡ false → v ≡ decodeFault n s r c w room
+      unfolding wording
+      fault-word q = meant ∙ sym (tried-refused (λ (x : Answer). x) W C Done (ap isDone (sym meant) ∙ sym ed ∙ q)) ∙ sym past-sheet
+
+      past-word : d ≡ true → decodeFault n s r c w room ≡ pick (ltb largestCeiling c) BadCeiling Done
+      past-word q = past-sheet ∙ past-none (λ (x : Answer). x) W C Done (worded-none (2 ^ n) 2 (3 * 2 ^ n) w room (ap isDone (sym meant) ∙ sym ed ∙ q))
+
+      pub fault-ceiling : d ≡ true → largestCeiling < c → BadCeiling ≡ decodeFault n s r c w room
+      fault-ceiling q h = sym (past-word q ∙ rw (lt-ltb largestCeiling c h) refl)
+
+      pub fault-none : d ≡ true → c ≤ largestCeiling → Done ≡ decodeFault n s r c w room
+      fault-none q h = sym (past-word q ∙ rw (le-ltb largestCeiling c h) refl)
+
+-- ---- decoding
+
+module _ (n : ℕ) (s : List ℕ) (r c : ℕ) (w out : List ℕ) where
+  abbrev F : List Refusal
+  F = formRefusals n s r c w out
 
   abbrev G : ℕ
   G = unknowns n (rules n s) w
 
-  abbrev late : List Refusal
-  late = (ltb largestCeiling c ⇒ BadCeiling) ∷ (ltb c G ⇒ TooMany G) ∷ []
-
   abbrev last : Reply
   last = verdict n G (equations n (rules n s) r w) (candidates n (rules n s) r w) out
 
-  table : decoding n s r c w out ≡ firstOf (leaving out) (S ++ (W ++ late)) last
-  unfolding decoding decodeRefusals formRefusals
-  table = ap (λ (t : List Refusal). firstOf (leaving out) t last)
-      (append-assoc (S ++ W) ((ltb largestCeiling c ⇒ BadCeiling) ∷ []) ((ltb c G ⇒ TooMany G) ∷ []) ∙ append-assoc S W late)
+  pub form-none : refuses (sheetRefusals n s r) ≡ false → refuses (wordRefusals (2 ^ n) 2 (3 * 2 ^ n) w (length out)) ≡ false → c ≤ largestCeiling → refuses F ≡ false
+  unfolding formRefusals
+  form-none p q h = both-none (S n s r c w (length out) ++ W n s r c w (length out)) _ (both-none (S n s r c w (length out)) _ p q) (rw (le-ltb largestCeiling c h) refl)
 
-  module _ (a : Answer) (ea : a ≡ checking n s r) (b : Bool) (eb : b ≡ isDone a) where
-    pub decode-sheet : b ≡ false → leaving out a ≡ decoding n s r c w out
-    unfolding checking
-    decode-sheet t = ap (leaving out) ea ∙ sym (tried-refused (leaving out) S _ last (ap isDone (sym ea) ∙ sym eb ∙ t)) ∙ sym table
+  pub decode-formed : refuses F ≡ false → deciding n s r c w out ≡ decoding n s r c w out
+  unfolding deciding decoding decodeRefusals
+  decode-formed h = sym (past-none (leaving out) F ((ltb c G ⇒ TooMany G) ∷ []) last h)
 
-    pub sheet-none : b ≡ true → refuses S ≡ false
-    sheet-none t = checked-none n s r (ap isDone (sym ea) ∙ sym eb ∙ t)
+  formed : refuses F ≡ false → Formed n s r c w out
+  unfolding formRefusals
+  formed h =
+      let (p, u) = none-append (S n s r c w (length out) ++ W n s r c w (length out)) _ h in
+      let (q, v) = none-append (S n s r c w (length out)) _ p in
+      let g = good n s r q in
+      let d = worded (2 ^ n) 2 (3 * 2 ^ n) w (length out) v in
+      record {
+        small = g .small;
+        long = g .long;
+        ordered = g .ordered;
+        check = g .check;
+        enough = g .roomy;
+        symbols = d .long;
+        room = d .roomy;
+        low = ltb-false largestCeiling c (or-false-l (ltb largestCeiling c) false u);
+      }
 
-  module _ (ok : refuses S ≡ false) where
-    past-sheet : decoding n s r c w out ≡ firstOf (leaving out) (W ++ late) last
-    past-sheet = table ∙ past-none (leaving out) S (W ++ late) last ok
+  -- no fault of form is found; what is then decided
+  pub record Passed : Type 0 where
+    pub formed : Formed n s r c w out
+    pub long : length w ≡ 2 ^ n
+    pub within : length w ≤ 2 ^ largestN
+    pub decided : deciding n s r c w out ≡ decoding n s r c w out
 
-    module _ (a : Answer) (wanted needed room : ℕ) (e₁ : wanted ≡ 2 ^ n) (e₂ : needed ≡ 3 * 2 ^ n) (e₃ : room ≡ length out) (ea : a ≡ wording wanted 2 needed w room) (b : Bool) (eb : b ≡ isDone a) where
-      meant : a ≡ wording (2 ^ n) 2 (3 * 2 ^ n) w (length out)
-      meant = ea ∙ rw (e₁, e₂, e₃) refl
+  module _ (a : Answer) (ea : a ≡ decodeFault n s r c w (length out)) (b : Bool) (eb : b ≡ isDone a) where
+    pub decode-refused : b ≡ false → leaving out a ≡ decoding n s r c w out
+    unfolding decodeFault decoding decodeRefusals formRefusals
+    decode-refused t = ap (leaving out) ea ∙ sym (tried-refused (leaving out) F ((ltb c G ⇒ TooMany G) ∷ []) last (ap isDone (sym ea) ∙ sym eb ∙ t))
 
-      pub decode-word : b ≡ false → leaving out a ≡ decoding n s r c w out
-      unfolding wording
-      decode-word t = ap (leaving out) meant ∙ sym (tried-refused (leaving out) W late last (ap isDone (sym meant) ∙ sym eb ∙ t)) ∙ sym past-sheet
+    none : b ≡ true → refuses F ≡ false
+    unfolding decodeFault formRefusals sheetRefusals wordRefusals
+    none t = tried-done F refl (ap isDone (sym ea) ∙ sym eb ∙ t)
 
-      pub word-none : b ≡ true → refuses W ≡ false
-      word-none t = worded-none (2 ^ n) 2 (3 * 2 ^ n) w (length out) (ap isDone (sym meant) ∙ sym eb ∙ t)
-
-    module _ (fine : refuses W ≡ false) where
-      past-word : decoding n s r c w out ≡ firstOf (leaving out) late last
-      past-word = past-sheet ∙ past-none (leaving out) W late last fine
-
-      pub decode-ceiling : largestCeiling < c → leaving out BadCeiling ≡ decoding n s r c w out
-      decode-ceiling h = sym (past-word ∙ ap (λ (b : Bool). pick b (leaving out BadCeiling) (pick (ltb c G) (leaving out (TooMany G)) last)) (lt-ltb largestCeiling c h))
-
-      pub decode-formed : c ≤ largestCeiling → deciding n s r c w out ≡ decoding n s r c w out
-      unfolding deciding
-      decode-formed h = sym (past-word ∙ ap (λ (b : Bool). pick b (leaving out BadCeiling) (pick (ltb c G) (leaving out (TooMany G)) last)) (le-ltb largestCeiling c h))
-
-      pub formed : c ≤ largestCeiling → Formed n s r c w out
-      formed h =
-          let g = good n s r ok in
-          let d = worded (2 ^ n) 2 (3 * 2 ^ n) w (length out) fine in
-          record {
-            small = g .small;
-            long = g .long;
-            ordered = g .ordered;
-            check = g .check;
-            enough = g .roomy;
-            symbols = d .long;
-            room = d .roomy;
-            low = h;
-          }
-
-pub size-low : (n size : ℕ) → n ≤ largestN → size ≡ 2 ^ n → size ≤ 2 ^ largestN
-size-low n size h e = omega (arith, e, pow-mono {i = n} {j = largestN} h)
+    pub passed : b ≡ true → Passed
+    passed t =
+        let f = formed (none t) in
+        record { formed = f; long = f .symbols; within = omega (arith, f .symbols, pow-mono (f .small)); decided = decode-formed (none t) }

@@ -1,9 +1,5 @@
--- Filling, AtRows, Assembling: the strips and the verdict on rows of two words. Deciding: the refusals.
--- Solver, Systems, Descents: what the solver, the check's rows and the descent leave.
+-- Deciding: the refusals. Solver, Systems, Descents: what the solver, the check's rows and the descent leave.
 -- Promise, Whole: what follows from the promise: the demands, and what becomes of a codeword with nothing lost.
-pub mod Filling
-pub mod AtRows
-pub mod Assembling
 pub mod Deciding
 pub mod Solver
 pub mod Systems

@@ -30,7 +30,7 @@ use Rattle.meaning.proofs.Refusals.{none-append}
 use Rattle.meaning.proofs.Forms.{good, worded}
 use Rattle.meaning.proofs.ReadBack.{whole, encode-is, word-none, encoded-none}
 use Rattle.decoder.specs.Deciding.{deciding}
-use Rattle.decoder.proofs.Deciding.{decode-formed}
+use Rattle.decoder.proofs.Deciding.{form-none, decode-formed}
 
 none-erased : (x : List Bool) → ones (map erased (map bit x)) ≡ 0
 none-erased [] = refl
@@ -67,7 +67,7 @@ module _ (n : ℕ) (s : List ℕ) (r c : ℕ) (out : List ℕ) (x : List Bool) (
   decoded-whole : decoding n s r c w out ≡ writing (w ++ w ++ w) out (Unique 0 m)
   unfolding deciding verdict
   decoded-whole =
-      sym (decode-formed n s r c w out ok word-fine low)
+      sym (decode-formed n s r c w out (form-none n s r c w out ok word-fine low))
       ∙ ap₂ (λ (g : ℕ) (cs : List (List Bool)). pick (ltb c g) (leaving out (TooMany g)) (verdict n g m cs out)) no-unknown itself
       ∙ ap (λ (b : Bool). pick b (leaving out (TooMany 0)) (verdict n 0 m (x ∷ []) out)) (le-ltb c 0 (omega arith))
       ∙ ap (λ (t : List ℕ). writing t out (Unique 0 m)) three-times

@@ -1,4 +1,5 @@
 -- Decoding, part by part.
+--     decodeFault    the fault of form that it is refused for: of 11 to 17 the first that applies, Done where none does
 --     deciding       what is left once no fault of form is found: too many unknowns, or the verdict
 --     systemRows     the equations of a descent, then those of the check
 --     Settling       what the last step needs of a descent
@@ -7,7 +8,7 @@ use mathlib.Core.Path.{_≡_}
 use mathlib.Core.Logic.{_⊎_}
 use Prim.Native.Nat.{ℕ, _+_, _*_, _^_, _≤_}
 use mathlib.Core.Bool.{true}
-use mathlib.Core.List.{List, _++_}
+use mathlib.Core.List.{List, [], _∷_, _++_}
 use lib.ListN.{length}
 use lib.Dec.{ltb}
 use Rattle.bits.specs.Vectors.{pick}
@@ -16,12 +17,18 @@ use Rattle.meaning.specs.Limits.{largestN, recordBytes, largestCeiling}
 use Rattle.meaning.specs.Sheet.{rules, frees, early}
 use Rattle.meaning.specs.Codewords.{candidates}
 use Rattle.meaning.specs.Open.{unknowns, equations}
-use Rattle.meaning.specs.Answers.{Reply, leaving, verdict}
-use Rattle.meaning.specs.declared.Answer.the-variants.{TooMany}
+use Rattle.meaning.specs.Answers.{Reply, _⇒_, firstOf, sheetRefusals, wordRefusals, leaving, verdict}
+use Rattle.meaning.specs.declared.Answer.{Answer}
+use Rattle.meaning.specs.declared.Answer.the-variants.{Done, BadCeiling, TooMany}
 use Rattle.gf2.specs.Rows.{rowsOf}
 use Rattle.gf2.specs.Solve.{solve}
 use Rattle.model.specs.Model.{checks}
 use Rattle.descent.specs.Values.{rowValues}
+
+-- the rows of `formRefusals`, of an output with this room
+unfoldable pub decodeFault : ℕ → List ℕ → ℕ → ℕ → List ℕ → ℕ → Answer
+decodeFault n s r c w room =
+    firstOf (λ (a : Answer). a) (sheetRefusals n s r ++ wordRefusals (2 ^ n) 2 (3 * 2 ^ n) w room ++ ((ltb largestCeiling c ⇒ BadCeiling) ∷ [])) Done
 
 unfoldable pub deciding : ℕ → List ℕ → ℕ → ℕ → List ℕ → List ℕ → Reply
 deciding n s r c w out =

@@ -1,3 +1,2 @@
--- Words: the strips and the test of the equations, on rows of two words. Deciding: decoding, part by part.
-pub mod Words
+-- Deciding: decoding, part by part.
 pub mod Deciding

@@ -5,11 +5,9 @@ ghost use Prim.Native.Nat.{_*_, _^_, _≤_};
 ghost use lib.ListN.{length};
 ghost use Rattle.meaning.specs.Limits.{largestN};
 ghost use Rattle.meaning.specs.Answers.{leaving, decoding};
-ghost use Rattle.decoder.specs.Deciding.{deciding, Formed};
+ghost use Rattle.decoder.specs.Deciding.{decodeFault, deciding, Formed};
 
-mod reading;
 mod solving;
-mod strips;
 
 use descent::Descent;
 use meaning::Answer;
@@ -18,12 +16,24 @@ use meaning::limits;
 // The words of the rows of N symbols, for the largest N: two words a row.
 const WORDS: usize = 2 * limits::POSITIONS;
 
-// N, 2 to the n.
-fn size_of(n: usize) -> usize
-    requires { ⌜ n ≤ largestN ⌝ }
-    ensures { λ r. ⌜ r ≡ 2 ^ n ⌝ }
+// The fault of form that decoding is refused for: the sheet's, the word's, the output's or the ceiling's. Done where there is
+// none.
+fn fault(n: usize, sheet: &[u8], r: usize, ceiling: usize, word: &[u8], room: usize) -> Answer
+    ensures { λ a. ⌜ a ≡ decodeFault n (now (sheet .entry)) r ceiling (now (word .entry)) room ⌝ }
 {
-    1 << n
+    let a = form::check_sheet(n, sheet, r);
+    if !meaning::is_done(a) {
+        return a;
+    }
+    let size = sheet.len() / limits::RECORD;
+    let b = form::check_word(word, size, 2, room, 3 * size);
+    if !meaning::is_done(b) {
+        return b;
+    }
+    if limits::LARGEST_CEILING < ceiling {
+        return Answer::BadCeiling;
+    }
+    Answer::Done
 }
 
 // Answers where no fault of form is found: too many unknowns, or the verdict. The three slices hold N rows of two words.
@@ -64,19 +74,11 @@ fn decode_in(
     requires { ⌜ (2 ^ largestN * 2 ≤ length (now vals)) × (2 ^ largestN * 2 ≤ length (now us)) × (2 ^ largestN * 2 ≤ length (now eqs)) ⌝ }
     ensures { λ a. ⌜ leaving (now (out .exit)) a ≡ decoding n (now (sheet .entry)) r ceiling (now (word .entry)) (now (out .entry)) ⌝ }
 {
-    let a = form::check_sheet(n, sheet, r);
+    let a = fault(n, sheet, r, ceiling, word, out.len());
     if !meaning::is_done(a) {
         return a;
     }
-    let size = size_of(n);
-    let b = form::check_word(word, size, 2, out.len(), 3 * size);
-    if !meaning::is_done(b) {
-        return b;
-    }
-    if limits::LARGEST_CEILING < ceiling {
-        return Answer::BadCeiling;
-    }
-    let k = size * 2;
+    let k = 2 * word.len();
     answer(
         n,
         sheet,

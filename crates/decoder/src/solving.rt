@@ -7,7 +7,6 @@ ghost use Rattle.gf2.specs.Solve.{solve};
 ghost use Rattle.meaning.specs.Answers.{leaving};
 ghost use Rattle.verdict.specs.Reading.{rowVerdict};
 ghost use Rattle.decoder.specs.Deciding.{systemRows, Settling};
-use crate::reading;
 use gf2::Outcome;
 use meaning::Answer;
 

@@ -1,9 +1,6 @@
-use mathlib.Core.Path.{ap, _∙_}
-use native.Mathlib.Omega.{arith}
+use mathlib.Core.Path.{_∙_}
 use borrow.Author.Needs.{needs}
-use Rattle.gf2.specs.Solve.{Sys}
-use Rattle.verdict.specs.Reading.{rowVerdict}
-use Rattle.decoder.proofs.Solver.{never-misfit, rank-is, system-is}
+use Rattle.decoder.proofs.Solver.{never-misfit, concluded}
 use Rattle.decoder.proofs.solving.finish.Statement.{statement}
 use Rattle.decoder.proofs.solving.finish.Tie as tie
 
@@ -17,16 +14,7 @@ enum-known-rank : tie.Need-enum-known-rank
 enum-known-rank c = search needs
 
 conclude-requires : tie.Need-conclude-requires
-conclude-requires c κs =
-    let told = c .before .before .before in
-    let call = told .before .before .before .before .before .before .before in
-    let start = call .before .before .before .before .before .before in
-    let E = call .eliminate in
-    let A = start .args in
-    let ke = E .kept .0 in
-    let kv = E .kept .1 .0 in
-    let k = rank-is (A .eqs .now) (A .vals .now) (E .last .0) (E .last .1 .0) (E .result) (start .pre .1 .0) (start .pre .0 .1) (E .ensures) _ (told .before .rank .given .1) in
-    ((start .pre .0 .0, omega arith, omega arith), (omega (arith, k, start .pre .1 .1), omega arith))
+conclude-requires c κs = search needs
 
 same-length : tie.Need-same-length
 same-length c = search needs
@@ -53,14 +41,14 @@ same-length-5 c = search needs
 
 returns-2 : tie.Need-returns-2
 returns-2 c =
-    let concluded = c .before .before in
-    let told = concluded .before .before .before .before in
+    let last = c .before .before in
+    let told = last .before .before .before .before in
     let call = told .before .before .before .before .before .before .before in
     let start = call .before .before .before .before .before .before in
     let E = call .eliminate in
     let A = start .args in
-    concluded .conclude .ensures
-    ∙ ap (λ (s : Sys). rowVerdict 1 (A .g) (A .m) s (A .out .now)) (system-is (A .eqs .now) (A .vals .now) (E .last .0) (E .last .1 .0) (E .result) (start .pre .1 .0) (start .pre .0 .1) (E .ensures) _ (told .before .rank .given .1))
+    last .conclude .ensures
+    ∙ concluded (A .eqs .now) (A .vals .now) (E .last .0) (E .last .1 .0) (E .result) (start .pre .1 .0) (start .pre .0 .1) (E .ensures) (A .g) (A .m) _ (A .out .now) (told .before .rank .given .1) (E .kept .0) (E .kept .1 .0) (start .pre .0 .0) (start .pre .1 .1) (start .pre .0 .2)
 
 pub finish-spec : {M : Type 1} → statement M
 finish-spec =

@@ -1,0 +1,53 @@
+use Prim.Native.Nat.{_-_}
+use native.Mathlib.Omega.{arith}
+use lib.ListN.{length}
+use Rattle.reading.specs.Words.{rowAt, rowLastBy, lastWords}
+use Rattle.reading.proofs.Filling.{Filling, filling-none, filling-next, filling-all}
+use Rattle.reading.proofs.strips.last.Statement.{statement}
+use Rattle.reading.proofs.strips.last.Tie as tie
+
+abbrev Inv-loop : tie.InvT-loop
+Inv-loop vals all out₀ j₀ out j = Filling (λ k. rowLastBy all (rowAt vals k)) (length out₀) out j
+
+abbrev μ-loop : tie.MeasureT-loop
+μ-loop vals all out₀ j₀ out j = length out₀ - j
+
+loop-holds : tie.Need-loop-holds Inv-loop μ-loop
+loop-holds c = filling-none _ _
+
+last-at-requires : tie.Need-last-at-requires Inv-loop μ-loop
+last-at-requires c κs = let i = c .before .loop .inv in let s = i .size in let e = c .before .before .before .before .pre in omega arith
+
+slice-write-out : tie.Need-slice-write-out Inv-loop μ-loop
+slice-write-out c = c .before .loop-test .taken
+
+add-j : tie.Need-add-j Inv-loop μ-loop
+add-j c = omega arith
+
+loop-less : tie.Need-loop-less Inv-loop μ-loop
+loop-less c = let turn = c .before in let s = turn .before .loop .inv .size in omega arith
+
+loop-again : tie.Need-loop-again Inv-loop μ-loop
+loop-again c = let turn = c .before in let inv = turn .before .loop .inv in let s = inv .size in filling-next inv _ (omega (arith, turn .loop-test .taken)) (c .last-at .ensures)
+
+same-length : tie.Need-same-length Inv-loop μ-loop
+same-length c = c .before .loop .inv .size
+
+returns : tie.Need-returns Inv-loop μ-loop
+unfolding lastWords
+returns c = let inv = c .before .loop .inv in let s = inv .size in filling-all inv (omega (arith, c .loop-test .left))
+
+pub last-spec : {M : Type 1} → statement M
+last-spec =
+    tie.close
+    (tie.spec
+    Inv-loop
+    μ-loop
+    loop-holds
+    last-at-requires
+    slice-write-out
+    add-j
+    loop-less
+    loop-again
+    same-length
+    returns)

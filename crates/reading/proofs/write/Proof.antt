@@ -1,0 +1,89 @@
+use borrow.Author.Needs.{needs}
+use Rattle.reading.proofs.Assembling.{written}
+use Rattle.reading.proofs.write.Statement.{statement}
+use Rattle.reading.proofs.write.Tie as tie
+
+sub-settled : tie.Need-sub-settled
+sub-settled c = search needs
+
+part-settled-start : tie.Need-part-settled-start
+part-settled-start c = search needs
+
+part-settled-end : tie.Need-part-settled-end
+part-settled-end c = search needs
+
+settled-requires : tie.Need-settled-requires
+settled-requires c κs = search needs
+
+mul-first : tie.Need-mul-first
+mul-first c = search needs
+
+sub-first : tie.Need-sub-first
+sub-first c = search needs
+
+part-first-start : tie.Need-part-first-start
+part-first-start c = search needs
+
+part-first-end : tie.Need-part-first-end
+part-first-end c = search needs
+
+first-requires : tie.Need-first-requires
+first-requires c κs = search needs
+
+ones-requires : tie.Need-ones-requires
+ones-requires c κs = search needs
+
+mul-last : tie.Need-mul-last
+mul-last c = search needs
+
+mul-last-2 : tie.Need-mul-last-2
+mul-last-2 c = search needs
+
+sub-last : tie.Need-sub-last
+sub-last c = search needs
+
+part-last-start : tie.Need-part-last-start
+part-last-start c = search needs
+
+part-last-end : tie.Need-part-last-end
+part-last-end c = search needs
+
+last-requires : tie.Need-last-requires
+last-requires c κs = search needs
+
+same-length : tie.Need-same-length
+same-length c = search needs
+
+returns : tie.Need-returns
+returns c =
+    let start = c .before .before .before .before .before .before .before .before .before .before .before .before .before .before .before in
+    let settled = c .before .before .before .before .before .before .before .before .before .before .before in
+    let first = c .before .before .before .before .before .before .before in
+    let last = c .before .before in
+    written (start .args .vals .now) _ (start .pre .1) (start .args .out .now) (start .args .g) (start .pre .0)
+    (settled .settled .last .1 .0) (first .first .last .1 .0) (last .last .last .1 .1 .0) _ _ _ _ (last .before .before .ones .ensures)
+    (settled-requires (settled .before) (start .κs)) (first-requires (first .before) (start .κs)) (last-requires (last .before) (start .κs))
+    (settled .settled .ensures) (first .first .ensures) (last .last .ensures)
+
+pub write-spec : {M : Type 1} → statement M
+write-spec =
+    tie.close
+    (tie.spec
+    sub-settled
+    part-settled-start
+    part-settled-end
+    settled-requires
+    mul-first
+    sub-first
+    part-first-start
+    part-first-end
+    first-requires
+    ones-requires
+    mul-last
+    mul-last-2
+    sub-last
+    part-last-start
+    part-last-end
+    last-requires
+    same-length
+    returns)
