@@ -1,17 +1,19 @@
 -- The refusals 11 to 17, and decoding where one applies and where none does.
 --     fault-sheet, fault-word, fault-ceiling, fault-none     the fault of form, test by test
 --     decode-refused                                         decoding is refused for it
---     form-none                                              nothing is refused
---     Passed, passed, decode-formed                          what is then known, and what is left to decide
+--     form-none, decode-formed                               nothing is refused: what is left to decide
+--     decode-passed, decode-decided                          the same, where no fault was found
+--     within, rows-long, rows-back                           there is room for the rows
 use mathlib.Core.Path.{_≡_, refl, sym, ap, _∙_}
-use Prim.Native.Nat.{ℕ, _*_, _/_, _^_, _≤_, _<_}
+use Prim.Native.Nat.{ℕ, _*_, _-_, _/_, _^_, _≤_, _<_}
 use native.Mathlib.Omega.{arith}
 use mathlib.Core.Bool.{Bool, true, false, _||_}
 use mathlib.Core.List.{List, [], _∷_, _++_, append-assoc}
-use lib.ListN.{length}
+use lib.ListN.{length, take, length-take}
 use lib.Dec.{ltb}
 use lib.Pow.{pow-mono}
 use borrow.Author.Tests.{lt-ltb, le-ltb, ltb-false}
+use borrow.Rule.Slice.PartMut.{postOf, same-len-mid}
 use Rattle.bits.specs.Vectors.{pick}
 use Rattle.bits.proofs.Tests.{or-false-l}
 use Rattle.meaning.specs.Limits.{largestN, recordBytes, largestCeiling}
@@ -109,13 +111,6 @@ module _ (n : ℕ) (s : List ℕ) (r c : ℕ) (w out : List ℕ) where
         low = ltb-false largestCeiling c (or-false-l (ltb largestCeiling c) false u);
       }
 
-  -- no fault of form is found; what is then decided
-  pub record Passed : Type 0 where
-    pub formed : Formed n s r c w out
-    pub long : length w ≡ 2 ^ n
-    pub within : length w ≤ 2 ^ largestN
-    pub decided : deciding n s r c w out ≡ decoding n s r c w out
-
   module _ (a : Answer) (ea : a ≡ decodeFault n s r c w (length out)) (b : Bool) (eb : b ≡ isDone a) where
     pub decode-refused : b ≡ false → leaving out a ≡ decoding n s r c w out
     unfolding decodeFault decoding decodeRefusals formRefusals
@@ -125,7 +120,22 @@ module _ (n : ℕ) (s : List ℕ) (r c : ℕ) (w out : List ℕ) where
     unfolding decodeFault formRefusals sheetRefusals wordRefusals
     none t = tried-done F refl (ap isDone (sym ea) ∙ sym eb ∙ t)
 
-    pub passed : b ≡ true → Passed
-    passed t =
-        let f = formed (none t) in
-        record { formed = f; long = f .symbols; within = omega (arith, f .symbols, pow-mono (f .small)); decided = decode-formed (none t) }
+    pub decode-passed : b ≡ true → Formed n s r c w out
+    decode-passed t = formed (none t)
+
+    pub decode-decided : b ≡ true → (x : Reply) → x ≡ deciding n s r c w out → x ≡ decoding n s r c w out
+    decode-decided t x p = p ∙ decode-formed (none t)
+
+-- ---- room for the rows
+
+module _ (n : ℕ) (s : List ℕ) (r c : ℕ) (w out : List ℕ) (F : Formed n s r c w out) where
+  -- there is room for the rows of N symbols
+  pub within : (k : ℕ) → 2 ^ largestN * 2 ≤ k → 2 * length w ≤ k
+  within k h = omega (arith, h, F .symbols, pow-mono (F .small))
+
+  pub rows-long : (l : List ℕ) → 2 ^ largestN * 2 ≤ length l → length (take (2 * length w - 0) l) ≡ 2 ^ n * 2
+  rows-long l h = let k = within (length l) h in simp length-take (omega (arith, k, F .symbols))
+
+-- a list whose rows came back is as long as before
+pub rows-back : (w l x : List ℕ) → length x ≡ length (take (2 * length w - 0) l) → length (x ++ postOf 0 (2 * length w - 0) l) ≡ length l
+rows-back w l x e = same-len-mid 0 (2 * length w - 0) l x e

@@ -23,7 +23,7 @@ use Rattle.meaning.specs.Limits.{largestN, recordBytes, largestCeiling}
 use Rattle.meaning.specs.Sheet.{Rule, free, frozen, ruleAt, rules, frees}
 use Rattle.meaning.specs.Codewords.{candidates}
 use Rattle.meaning.specs.Open.{openAll, closedFrozen, unknowns, equations}
-use Rattle.meaning.specs.Answers.{leaving, verdict}
+use Rattle.meaning.specs.Answers.{Reply, leaving, verdict}
 use Rattle.meaning.specs.declared.Answer.the-variants.{TooMany}
 use Rattle.meaning.proofs.Sound.{length-rules}
 use Rattle.model.specs.Model.{checks, run, system}
@@ -64,30 +64,34 @@ module _ (n : ℕ) (s : List ℕ) (r c : ℕ) (w out vals us eqs : List ℕ) (F 
       (and-i _ _ (and-i _ _ (le-leb 2 65536 (omega arith)) (and-i _ _ (lt-ltb 1 2 (omega arith)) (le-leb c (64 * 1) (let l = F .low in omega arith))))
       (and-i _ _ (eq-eqb (length vals) (2 ^ n * 2) lv) (and-i _ _ (eq-eqb (length us) (2 ^ n * 2) lu) (eq-eqb (length eqs) (2 ^ n * 2) le))))
 
-  -- the promise of the descent, where all fits
+  -- the promise of the descent, at the case that it answers
+  case : (a b : Descent) (v u e : List ℕ) → a ≡ b → descended a v u e ≡ descending n s w c 1 2 vals us eqs → descended b v u e ≡ descending n s w c 1 2 vals us eqs
+  case a b v u e ea q = ap (λ (x : Descent). descended x v u e) (sym ea) ∙ q
+
+  -- and where all fits
   told : (a : Descent) (v u e : List ℕ) → descended a v u e ≡ descending n s w c 1 2 vals us eqs
       → descended a v u e ≡ pick (ltb c G) (descended (Over G) vals us eqs) (written n G 2 (found n s w 1 2))
   unfolding descending
   told a v u e q = q ∙ ap (λ (b : Bool). pick b (pick (ltb c G) (descended (Over G) vals us eqs) (written n G 2 (found n s w 1 2))) (descended Misfit vals us eqs)) fits
 
-  pub never-misfit : {A : Type 0} (v u e : List ℕ) → descended Misfit v u e ≡ descending n s w c 1 2 vals us eqs → A
-  never-misfit {A} v u e q = go (ltb c G) (told Misfit v u e q)
+  pub never-misfit : {A : Type 0} (a : Descent) (v u e : List ℕ) → a ≡ Misfit → descended a v u e ≡ descending n s w c 1 2 vals us eqs → A
+  never-misfit {A} a v u e ea q = go (ltb c G) (told Misfit v u e (case a Misfit v u e ea q))
     where
       go : (b : Bool) → descended Misfit v u e ≡ pick b (descended (Over G) vals us eqs) (written n G 2 (found n s w 1 2)) → A
       go true p = let a = ap (λ (o : Outcome). o .answer) p in let z : _≡_ {A = ℕ} 0 1 = cc in absurd (omega arith)
       go false p = let a = ap (λ (o : Outcome). o .answer) p in let z : _≡_ {A = ℕ} 0 1 = cc in absurd (omega arith)
 
-  pub too-many : (g : ℕ) (v u e : List ℕ) → descended (Over g) v u e ≡ descending n s w c 1 2 vals us eqs → leaving out (TooMany g) ≡ deciding n s r c w out
+  pub too-many : (g : ℕ) (a : Descent) (v u e : List ℕ) → a ≡ Over g → descended a v u e ≡ descending n s w c 1 2 vals us eqs → leaving out (TooMany g) ≡ deciding n s r c w out
   unfolding deciding
-  too-many g v u e q = go (ltb c G) (told (Over g) v u e q)
+  too-many g a v u e ea q = go (ltb c G) (told (Over g) v u e (case a (Over g) v u e ea q))
     where
       go : (b : Bool) → descended (Over g) v u e ≡ pick b (descended (Over G) vals us eqs) (written n G 2 (found n s w 1 2)) → leaving out (TooMany g) ≡ pick b (leaving out (TooMany G)) (verdict n G (equations n (rules n s) r w) (candidates n (rules n s) r w) out)
       go true p = let a = ap (λ (o : Outcome). o .answer) p in let e : g ≡ G = cc in ap (λ (k : ℕ). leaving out (TooMany k)) e
       go false p = let a = ap (λ (o : Outcome). o .answer) p in let z : _≡_ {A = ℕ} 0 1 = cc in absurd (omega arith)
 
-  module _ (g m : ℕ) (v u e : List ℕ) (q : descended (Done g m) v u e ≡ descending n s w c 1 2 vals us eqs) (kv : length v ≡ length vals) (ku : length u ≡ length us) (ke : length e ≡ length eqs) where
+  module _ (g m : ℕ) (a : Descent) (v u e : List ℕ) (ea : a ≡ Done g m) (q : descended a v u e ≡ descending n s w c 1 2 vals us eqs) (kv : length v ≡ length vals) (ku : length u ≡ length us) (ke : length e ≡ length eqs) where
     T : Told n s w c 1 2 g m v u e
-    T = done-tells n s w c 1 2 vals us eqs g m v u e q
+    T = done-tells n s w c 1 2 vals us eqs g m v u e (case a (Done g m) v u e ea q)
 
     system-is : systemRows n s r m u e ≡ system (rowValues 1 2) (ruleAt s) n r w
     unfolding systemRows system rules
@@ -125,9 +129,9 @@ module _ (n : ℕ) (s : List ℕ) (r c : ℕ) (w out vals us eqs : List ℕ) (F 
           rank = rw (system-is) (rank-le 1 (system (rowValues 1 2) (ruleAt s) n r w) (rowsOf 2 v) (constant 1) (has-⊻ (64 * 1)) g (let l = low in omega arith) (system-within 1 2 g (omega arith) (let l = low in omega arith) (ruleAt s) n w (T .symbols) unknown-is r));
         }
 
-    pub decided : rowVerdict 1 g (m + r) (solve 1 (systemRows n s r m u e) (rowsOf 2 v)) out ≡ deciding n s r c w out
+    verdict-is : rowVerdict 1 g (m + r) (solve 1 (systemRows n s r m u e) (rowsOf 2 v)) out ≡ deciding n s r c w out
     unfolding deciding
-    decided =
+    verdict-is =
         let a : G ≤ c = omega (arith, T .unknown, T .few) in
         let b : G ≤ 64 * 1 = omega (arith, T .unknown, low) in
         let x : List Row = system (rowValues 1 2) (ruleAt s) n r w in
@@ -136,3 +140,6 @@ module _ (n : ℕ) (s : List ℕ) (r c : ℕ) (w out vals us eqs : List ℕ) (F 
         ∙ ap₂ (λ (g m : ℕ). rowVerdict 1 g m (solve 1 x y) out) (T .unknown) many
         ∙ sym (reading n s w r 1 2 (equations n (rules n s) r w) out (T .symbols) (F .ordered) (omega arith) b)
         ∙ sym (ap (λ (t : Bool). pick t (leaving out (TooMany G)) (verdict n G (equations n (rules n s) r w) (candidates n (rules n s) r w) out)) (le-ltb c G a))
+
+    pub decided : (x : Reply) → x ≡ rowVerdict 1 g (m + r) (solve 1 (systemRows n s r m u e) (rowsOf 2 v)) out → x ≡ deciding n s r c w out
+    decided x p = p ∙ verdict-is

@@ -13,6 +13,7 @@ use Rattle.gf2.specs.declared.Outcome.{Outcome}
 use Rattle.gf2.specs.declared.Outcome.the-variants.{Misfit, Rank}
 use Rattle.gf2.proofs.Glue as gf2
 use Rattle.gf2.proofs.Calls.{left}
+use Rattle.meaning.specs.Answers.{Reply}
 use Rattle.verdict.specs.Reading.{rowVerdict}
 use Rattle.reading.specs.Concluding.{concluding}
 use Rattle.reading.proofs.Fitting.{Fit, all-fit, concluding-fit}
@@ -37,7 +38,7 @@ module _ (e r e₁ r₁ : List ℕ) (o : Outcome) (he : length e ≡ 2 * (length
     reads : Fit g k (length e₁) (length r₁) (length out)
     reads = record { low = low; symbols = omega arith; roomy = omega arith; pivots = omega (arith, rank-is k q, rank); equations = omega arith }
 
-    pub concluded : concluding g m k e₁ r₁ out ≡ rowVerdict 1 g m after out
-    concluded =
-        sym (concluding-fit g m k e₁ r₁ out true (sym (all-fit g k (length e₁) (length r₁) (length out) reads)) refl)
+    pub concluded : (x : Reply) → x ≡ concluding g m k e₁ r₁ out → x ≡ rowVerdict 1 g m after out
+    concluded x p =
+        p ∙ sym (concluding-fit g m k e₁ r₁ out true (sym (all-fit g k (length e₁) (length r₁) (length out) reads)) refl)
         ∙ ap (λ (s : Sys). rowVerdict 1 g m s out) (system-is k q)

@@ -22,6 +22,7 @@ use Rattle.gf2.specs.Rows as gf2
 use Rattle.gf2.specs.Solve.{solve}
 use Rattle.verdict.specs.Reading.{rowVerdict}
 use Rattle.meaning.specs.Limits.{largestN, recordBytes}
+use Rattle.meaning.specs.Answers.{Reply}
 use Rattle.descent.specs.Descending.{widest}
 use Rattle.checks.specs.Checking.{recorded, checkLength, spaced, checkFits, checked, checkOf, checking}
 use Rattle.checks.proofs.Columns.{length-check, check-wide}
@@ -106,5 +107,5 @@ module _ (n : ℕ) (s : List ℕ) (r g m : ℕ) (us eqs vals : List ℕ) (room :
       let l = system-length n s r us m eqs (S .small) (S .long) (S .check) (S .rows-u) (S .rows-e) t e q k h in
       ((S .low, omega arith, omega arith), (omega arith, rw read-system (S .rank)))
 
-  pub settled-as : (out : List ℕ) → rowVerdict 1 g (m + r) (solve 1 (rowsOf 2 (take k e)) (rowsOf 2 vals)) out ≡ rowVerdict 1 g (m + r) (solve 1 (systemRows n s r m us eqs) (rowsOf 2 vals)) out
-  settled-as out = ap (λ (x : List Row). rowVerdict 1 g (m + r) (solve 1 x (rowsOf 2 vals)) out) read-system
+  pub settled-as : (out : List ℕ) (x : Reply) → x ≡ rowVerdict 1 g (m + r) (solve 1 (rowsOf 2 (take k e)) (rowsOf 2 vals)) out → x ≡ rowVerdict 1 g (m + r) (solve 1 (systemRows n s r m us eqs) (rowsOf 2 vals)) out
+  settled-as out x p = p ∙ ap (λ (x : List Row). rowVerdict 1 g (m + r) (solve 1 x (rowsOf 2 vals)) out) read-system

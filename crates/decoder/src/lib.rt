@@ -36,7 +36,7 @@ fn fault(n: usize, sheet: &[u8], r: usize, ceiling: usize, word: &[u8], room: us
     Answer::Done
 }
 
-// Answers where no fault of form is found: too many unknowns, or the verdict. The three slices hold N rows of two words.
+// `decide`, on slices of N rows of two words.
 fn answer(
     n: usize,
     sheet: &[u8],
@@ -59,8 +59,9 @@ fn answer(
     }
 }
 
-// `decode`, with room for the rows.
-fn decode_in(
+// Answers where no fault of form is found: too many unknowns, or the verdict. The three slices have room for N rows of two
+// words, for the largest N.
+fn decide(
     n: usize,
     sheet: &[u8],
     r: usize,
@@ -71,13 +72,10 @@ fn decode_in(
     eqs: &mut [u64],
     out: &mut [u8],
 ) -> Answer
+    requires { ⌜ Formed n (now sheet) r ceiling (now word) (now out) ⌝ }
     requires { ⌜ (2 ^ largestN * 2 ≤ length (now vals)) × (2 ^ largestN * 2 ≤ length (now us)) × (2 ^ largestN * 2 ≤ length (now eqs)) ⌝ }
-    ensures { λ a. ⌜ leaving (now (out .exit)) a ≡ decoding n (now (sheet .entry)) r ceiling (now (word .entry)) (now (out .entry)) ⌝ }
+    ensures { λ a. ⌜ leaving (now (out .exit)) a ≡ deciding n (now (sheet .entry)) r ceiling (now (word .entry)) (now (out .entry)) ⌝ }
 {
-    let a = fault(n, sheet, r, ceiling, word, out.len());
-    if !meaning::is_done(a) {
-        return a;
-    }
     let k = 2 * word.len();
     answer(
         n,
@@ -107,10 +105,14 @@ pub fn decode(
 ) -> Answer
     ensures { λ a. ⌜ leaving (now (out .exit)) a ≡ decoding n (now (sheet .entry)) r ceiling (now (word .entry)) (now (out .entry)) ⌝ }
 {
+    let a = fault(n, sheet, r, ceiling, word, out.len());
+    if !meaning::is_done(a) {
+        return a;
+    }
     let mut vals = [0u64; WORDS];
     let mut us = [0u64; WORDS];
     let mut eqs = [0u64; WORDS];
-    decode_in(
+    decide(
         n,
         sheet,
         r,

@@ -1,7 +1,5 @@
-use mathlib.Core.Path.{sym, ap, _∙_}
+use mathlib.Core.Path.{_∙_}
 use borrow.Author.Needs.{needs}
-use Rattle.descent.specs.Descending.{descended}
-use Rattle.descent.specs.declared.Descent.{Descent}
 use Rattle.decoder.proofs.Descents.{never-misfit, too-many, settling, decided}
 use Rattle.decoder.proofs.answer.Statement.{statement}
 use Rattle.decoder.proofs.answer.Tie as tie
@@ -28,17 +26,16 @@ settle-requires c κs =
     let v = D .last .1 .1 .1 .1 .1 .1 .0 in
     let u = D .last .1 .1 .1 .1 .1 .1 .1 .0 in
     let e = D .last .1 .1 .1 .1 .1 .1 .1 .1 .0 in
-    let q = ap (λ (a : Descent). descended a v u e) (sym (told .before .g2 .given .1)) ∙ D .ensures in
-    settling (A .n) (A .sheet .now) (A .r) (A .ceiling) (A .word .now) (A .out .now) (A .vals .now) (A .us .now) (A .eqs .now) (start .pre .0) (start .pre .1 .0) (start .pre .1 .1) (start .pre .1 .2) _ _ v u e q (D .kept .1 .1 .1 .1 .1 .1 .0) (D .kept .1 .1 .1 .1 .1 .1 .1 .0) (D .kept .1 .1 .1 .1 .1 .1 .1 .1 .0)
+    settling (A .n) (A .sheet .now) (A .r) (A .ceiling) (A .word .now) (A .out .now) (A .vals .now) (A .us .now) (A .eqs .now) (start .pre .0) (start .pre .1 .0) (start .pre .1 .1) (start .pre .1 .2) _ _ (D .result) v u e (told .before .g2 .given .1) (D .ensures) (D .kept .1 .1 .1 .1 .1 .1 .0) (D .kept .1 .1 .1 .1 .1 .1 .1 .0) (D .kept .1 .1 .1 .1 .1 .1 .1 .1 .0)
 
 same-length : tie.Need-same-length
-same-length c = search needs
+same-length c = c .before .before .before .before .before .before .before .before .descend .kept .1 .1 .1 .1 .1 .1 .0
 
 same-length-2 : tie.Need-same-length-2
-same-length-2 c = search needs
+same-length-2 c = c .before .before .before .before .before .before .before .before .descend .kept .1 .1 .1 .1 .1 .1 .1 .0
 
 same-length-3 : tie.Need-same-length-3
-same-length-3 c = search needs
+same-length-3 c = c .before .before .before .before .before .before .before .before .descend .kept .1 .1 .1 .1 .1 .1 .1 .1 .0
 
 returns : tie.Need-returns
 returns c =
@@ -49,17 +46,16 @@ returns c =
     let v = D .last .1 .1 .1 .1 .1 .1 .0 in
     let u = D .last .1 .1 .1 .1 .1 .1 .1 .0 in
     let e = D .last .1 .1 .1 .1 .1 .1 .1 .1 .0 in
-    let q = ap (λ (a : Descent). descended a v u e) (sym (c .enum-told .given .1)) ∙ D .ensures in
-    never-misfit (A .n) (A .sheet .now) (A .r) (A .ceiling) (A .word .now) (A .out .now) (A .vals .now) (A .us .now) (A .eqs .now) (start .pre .0) (start .pre .1 .0) (start .pre .1 .1) (start .pre .1 .2) v u e q
+    never-misfit (A .n) (A .sheet .now) (A .r) (A .ceiling) (A .word .now) (A .out .now) (A .vals .now) (A .us .now) (A .eqs .now) (start .pre .0) (start .pre .1 .0) (start .pre .1 .1) (start .pre .1 .2) (D .result) v u e (c .enum-told .given .1) (D .ensures)
 
 same-length-4 : tie.Need-same-length-4
-same-length-4 c = search needs
+same-length-4 c = c .before .before .before .before .before .before .before .before .before .descend .kept .1 .1 .1 .1 .1 .1 .0
 
 same-length-5 : tie.Need-same-length-5
-same-length-5 c = search needs
+same-length-5 c = c .before .before .before .before .before .before .before .before .before .descend .kept .1 .1 .1 .1 .1 .1 .1 .0
 
 same-length-6 : tie.Need-same-length-6
-same-length-6 c = search needs
+same-length-6 c = c .before .before .before .before .before .before .before .before .before .descend .kept .1 .1 .1 .1 .1 .1 .1 .1 .0
 
 returns-2 : tie.Need-returns-2
 returns-2 c =
@@ -70,20 +66,19 @@ returns-2 c =
     let v = D .last .1 .1 .1 .1 .1 .1 .0 in
     let u = D .last .1 .1 .1 .1 .1 .1 .1 .0 in
     let e = D .last .1 .1 .1 .1 .1 .1 .1 .1 .0 in
-    let q = ap (λ (a : Descent). descended a v u e) (sym (c .before .g .given .1)) ∙ D .ensures in
-    too-many (A .n) (A .sheet .now) (A .r) (A .ceiling) (A .word .now) (A .out .now) (A .vals .now) (A .us .now) (A .eqs .now) (start .pre .0) (start .pre .1 .0) (start .pre .1 .1) (start .pre .1 .2) _ v u e q
+    too-many (A .n) (A .sheet .now) (A .r) (A .ceiling) (A .word .now) (A .out .now) (A .vals .now) (A .us .now) (A .eqs .now) (start .pre .0) (start .pre .1 .0) (start .pre .1 .1) (start .pre .1 .2) _ (D .result) v u e (c .before .g .given .1) (D .ensures)
 
 same-length-7 : tie.Need-same-length-7
-same-length-7 c = search needs
+same-length-7 c = c .before .before .before .before .before .before .settle .kept .1 .1 .1 .1 .1 .1 .1 .0 ∙ c .before .before .before .before .before .before .before .before .before .before .before .before .before .before .before .before .before .before .before .before .descend .kept .1 .1 .1 .1 .1 .1 .0
 
 same-length-8 : tie.Need-same-length-8
-same-length-8 c = search needs
+same-length-8 c = c .before .before .before .before .before .before .before .before .before .before .before .before .before .before .before .before .before .before .before .before .descend .kept .1 .1 .1 .1 .1 .1 .1 .0
 
 same-length-9 : tie.Need-same-length-9
-same-length-9 c = search needs
+same-length-9 c = c .before .before .before .before .before .before .settle .kept .1 .1 .1 .1 .1 .1 .0 ∙ c .before .before .before .before .before .before .before .before .before .before .before .before .before .before .before .before .before .before .before .before .descend .kept .1 .1 .1 .1 .1 .1 .1 .1 .0
 
 same-length-10 : tie.Need-same-length-10
-same-length-10 c = search needs
+same-length-10 c = c .before .before .before .before .before .before .settle .kept .1 .1 .1 .1 .1 .1 .1 .1 .0
 
 returns-3 : tie.Need-returns-3
 returns-3 c =
@@ -96,8 +91,7 @@ returns-3 c =
     let v = D .last .1 .1 .1 .1 .1 .1 .0 in
     let u = D .last .1 .1 .1 .1 .1 .1 .1 .0 in
     let e = D .last .1 .1 .1 .1 .1 .1 .1 .1 .0 in
-    let q = ap (λ (a : Descent). descended a v u e) (sym (told .before .g2 .given .1)) ∙ D .ensures in
-    settled .settle .ensures ∙ decided (A .n) (A .sheet .now) (A .r) (A .ceiling) (A .word .now) (A .out .now) (A .vals .now) (A .us .now) (A .eqs .now) (start .pre .0) (start .pre .1 .0) (start .pre .1 .1) (start .pre .1 .2) _ _ v u e q (D .kept .1 .1 .1 .1 .1 .1 .0) (D .kept .1 .1 .1 .1 .1 .1 .1 .0) (D .kept .1 .1 .1 .1 .1 .1 .1 .1 .0)
+    decided (A .n) (A .sheet .now) (A .r) (A .ceiling) (A .word .now) (A .out .now) (A .vals .now) (A .us .now) (A .eqs .now) (start .pre .0) (start .pre .1 .0) (start .pre .1 .1) (start .pre .1 .2) _ _ (D .result) v u e (told .before .g2 .given .1) (D .ensures) (D .kept .1 .1 .1 .1 .1 .1 .0) (D .kept .1 .1 .1 .1 .1 .1 .1 .0) (D .kept .1 .1 .1 .1 .1 .1 .1 .1 .0) _ (settled .settle .ensures)
 
 pub answer-spec : {M : Type 1} → statement M
 answer-spec =

@@ -1,34 +1,53 @@
+use borrow.Author.Tests.{not-true, not-false}
 use borrow.Author.Needs.{needs}
 use Rattle.meaning.specs.Limits.{largestN}
+use Rattle.decoder.proofs.Deciding.{decode-refused, decode-passed, decode-decided}
 use Rattle.decoder.proofs.decode.Statement.{statement}
 use Rattle.decoder.proofs.decode.Tie as tie
 
-slice-aggregate-decode-in : tie.Need-slice-aggregate-decode-in
-slice-aggregate-decode-in c = search needs
+fault-requires : tie.Need-fault-requires
+fault-requires c κs = search needs
 
-slice-aggregate-decode-in-2 : tie.Need-slice-aggregate-decode-in-2
-slice-aggregate-decode-in-2 c = search needs
+is-done-requires : tie.Need-is-done-requires
+is-done-requires c κs = search needs
 
-slice-aggregate-decode-in-3 : tie.Need-slice-aggregate-decode-in-3
-slice-aggregate-decode-in-3 c = search needs
+returns : tie.Need-returns
+returns c = decode-refused _ _ _ _ _ _ _ (c .before .before .fault .ensures) _ (c .before .is-done .ensures) (not-true _ (c .if1 .taken))
 
-decode-in-requires : tie.Need-decode-in-requires
+slice-aggregate-decide : tie.Need-slice-aggregate-decide
+slice-aggregate-decide c = search needs
+
+slice-aggregate-decide-2 : tie.Need-slice-aggregate-decide-2
+slice-aggregate-decide-2 c = search needs
+
+slice-aggregate-decide-3 : tie.Need-slice-aggregate-decide-3
+slice-aggregate-decide-3 c = search needs
+
+decide-requires : tie.Need-decide-requires
 unfolding largestN
-decode-in-requires c κs = search needs
+decide-requires c κs =
+    let test = c .before .before .before .before in
+    (decode-passed _ _ _ _ _ _ _ (test .before .before .fault .ensures) _ (test .before .is-done .ensures) (not-false _ (test .if1 .left)), search needs)
 
 same-length : tie.Need-same-length
 same-length c = search needs
 
-returns : tie.Need-returns
-returns c = search needs
+returns-2 : tie.Need-returns-2
+returns-2 c =
+    let done = c .before .before .before .before .before in
+    let test = done .before .before .before .before .before in
+    decode-decided _ _ _ _ _ _ _ (test .before .before .fault .ensures) _ (test .before .is-done .ensures) (not-false _ (test .if1 .left)) _ (done .decide .ensures)
 
 pub decode-spec : {M : Type 1} → statement M
 decode-spec =
     tie.close
     (tie.spec
-    slice-aggregate-decode-in
-    slice-aggregate-decode-in-2
-    slice-aggregate-decode-in-3
-    decode-in-requires
+    fault-requires
+    is-done-requires
+    returns
+    slice-aggregate-decide
+    slice-aggregate-decide-2
+    slice-aggregate-decide-3
+    decide-requires
     same-length
-    returns)
+    returns-2)

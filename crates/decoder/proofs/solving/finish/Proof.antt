@@ -1,4 +1,3 @@
-use mathlib.Core.Path.{_∙_}
 use borrow.Author.Needs.{needs}
 use Rattle.decoder.proofs.Solver.{never-misfit, concluded}
 use Rattle.decoder.proofs.solving.finish.Statement.{statement}
@@ -47,8 +46,7 @@ returns-2 c =
     let start = call .before .before .before .before .before .before in
     let E = call .eliminate in
     let A = start .args in
-    last .conclude .ensures
-    ∙ concluded (A .eqs .now) (A .vals .now) (E .last .0) (E .last .1 .0) (E .result) (start .pre .1 .0) (start .pre .0 .1) (E .ensures) (A .g) (A .m) _ (A .out .now) (told .before .rank .given .1) (E .kept .0) (E .kept .1 .0) (start .pre .0 .0) (start .pre .1 .1) (start .pre .0 .2)
+    concluded (A .eqs .now) (A .vals .now) (E .last .0) (E .last .1 .0) (E .result) (start .pre .1 .0) (start .pre .0 .1) (E .ensures) (A .g) (A .m) _ (A .out .now) (told .before .rank .given .1) (E .kept .0) (E .kept .1 .0) (start .pre .0 .0) (start .pre .1 .1) (start .pre .0 .2) _ (last .conclude .ensures)
 
 pub finish-spec : {M : Type 1} → statement M
 finish-spec =

@@ -1,4 +1,3 @@
-use mathlib.Core.Path.{_∙_}
 use Prim.Native.Nat.{_+_, _-_, _*_}
 use native.Mathlib.Omega.{arith}
 use borrow.Author.Needs.{needs}
@@ -48,7 +47,7 @@ returns c =
     let start = call .before .before .before .before .before .before .before in
     let A = start .args in
     let C = call .check-rows in
-    finished .finish .ensures ∙ settled-as (A .n) (A .sheet .now) (A .r) (A .g) (A .m) (A .us .now) (A .eqs .now) (A .vals .now) _ (start .pre) _ (C .last .1 .1 .1 .1 .1 .1 .1 .0) (C .ensures) (2 * (A .m + A .r) - 0) (omega arith) (A .out .now)
+    settled-as (A .n) (A .sheet .now) (A .r) (A .g) (A .m) (A .us .now) (A .eqs .now) (A .vals .now) _ (start .pre) _ (C .last .1 .1 .1 .1 .1 .1 .1 .0) (C .ensures) (2 * (A .m + A .r) - 0) (omega arith) (A .out .now) _ (finished .finish .ensures)
 
 pub settle-spec : {M : Type 1} → statement M
 settle-spec =
