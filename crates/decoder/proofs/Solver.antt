@@ -1,7 +1,7 @@
 -- What a call of the solver leaves, on rows of two words.
 --     never-misfit     the shapes fit
 --     concluded        the verdict that is read off what it leaves, where all fits together, is that of `solve`
-use mathlib.Core.Path.{_≡_, refl, sym, ap, _∙_}
+use mathlib.Core.Path.{_≡_, ap, _∙_}
 use Prim.Native.Nat.{ℕ, _*_, _/_, _≤_}
 use native.Mathlib.Omega.{arith}
 use mathlib.Core.Bool.{true}
@@ -11,19 +11,19 @@ use Rattle.gf2.specs.Rows.{rowsOf}
 use Rattle.gf2.specs.Solve.{Sys, sys, solve, fits, done, solved}
 use Rattle.gf2.specs.declared.Outcome.{Outcome}
 use Rattle.gf2.specs.declared.Outcome.the-variants.{Misfit, Rank}
-use Rattle.gf2.proofs.Glue as gf2
+use Rattle.gf2.proofs.Glue.{all-fit}
 use Rattle.gf2.proofs.Calls.{left}
 use Rattle.meaning.specs.Answers.{Reply}
 use Rattle.verdict.specs.Reading.{rowVerdict}
 use Rattle.reading.specs.Concluding.{concluding}
-use Rattle.reading.proofs.Fitting.{Fit, all-fit, concluding-fit}
+use Rattle.reading.proofs.Fitting.{Fit, concluding-is}
 
 module _ (e r e₁ r₁ : List ℕ) (o : Outcome) (he : length e ≡ 2 * (length e / 2)) (hr : length r ≡ 2 * (length r / 2)) (h : done e₁ r₁ o ≡ solved 1 2 e r) where
   abbrev after : Sys
   after = solve 1 (rowsOf 2 e) (rowsOf 2 r)
 
   fit : fits 1 2 e r ≡ true
-  fit = gf2.all-fit 1 2 e r (λ (z : _≡_ {A = ℕ} 2 0). absurd (omega arith)) (omega arith) (omega arith) (omega arith)
+  fit = all-fit 1 2 e r (λ (z : _≡_ {A = ℕ} 2 0). absurd (omega arith)) (omega arith) (omega arith) (omega arith)
 
   pub never-misfit : {A : Type 0} → o ≡ Misfit → A
   never-misfit q = let v = left 1 2 e r e₁ r₁ o fit h .rank-is in let z : _≡_ {A = ℕ} 0 1 = cc in absurd (omega arith)
@@ -39,6 +39,4 @@ module _ (e r e₁ r₁ : List ℕ) (o : Outcome) (he : length e ≡ 2 * (length
     reads = record { low = low; symbols = omega arith; roomy = omega arith; pivots = omega (arith, rank-is k q, rank); equations = omega arith }
 
     pub concluded : (x : Reply) → x ≡ concluding g m k e₁ r₁ out → x ≡ rowVerdict 1 g m after out
-    concluded x p =
-        p ∙ sym (concluding-fit g m k e₁ r₁ out true (sym (all-fit g k (length e₁) (length r₁) (length out) reads)) refl)
-        ∙ ap (λ (s : Sys). rowVerdict 1 g m s out) (system-is k q)
+    concluded x p = p ∙ concluding-is g m k e₁ r₁ out reads ∙ ap (λ (s : Sys). rowVerdict 1 g m s out) (system-is k q)

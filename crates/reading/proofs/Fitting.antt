@@ -1,17 +1,16 @@
 -- Whether what is handed over fits together, test by test.
 --     unknowns-high, rank-high, odd-eqs, odd-vals, last-test     what the tests answer
 --     Fit, fit          what is known where all fits
---     all-fit           all fits where that is known
---     concluding-fit, concluding-misfit     the two cases of `concluding`
-use mathlib.Core.Path.{_≡_, refl, sym, ap, _∙_}
+--     concluding-misfit, concluding-fit     the two cases of `concluding`
+--     concluding-is     `concluding` where all is known to fit
+use mathlib.Core.Path.{_≡_, refl, sym, _∙_}
 use Prim.Native.Nat.{ℕ, _*_, _/_, _%_, _≤_, _<_}
 use native.Mathlib.Omega.{arith}
-use mathlib.Core.Bool.{Bool, true, false, _&&_}
+use mathlib.Core.Bool.{Bool, true, false}
 use mathlib.Core.List.{List}
 use lib.ListN.{length}
 use lib.Dec.{eqb, leb}
 use borrow.Author.Tests.{le-leb, lt-leb, eq-eqb, ne-eqb, leb-true, leb-false, eqb-true}
-use Rattle.bits.specs.Vectors.{pick}
 use Rattle.bits.proofs.Tests.{and-i, and-l, and-r}
 use Rattle.gf2.specs.Rows.{rowsOf}
 use Rattle.gf2.specs.Solve.{sys}
@@ -59,9 +58,10 @@ module _ (g rank e v room : ℕ) where
                 go true t = sym (le-leb (3 * k) room (omega (arith, leb-true k (room / 3) t)))
                 go false t = sym (lt-leb (3 * k) room (omega (arith, leb-false k (room / 3) t)))
 
-  pub fit : fits g rank e v room ≡ true → Fit g rank e v room
+  pub fit : (b : Bool) → b ≡ fits g rank e v room → b ≡ true → Fit g rank e v room
   unfolding fits
-  fit t =
+  fit b is q =
+      let t = sym is ∙ q in
       let p = and-r (leb g 63) _ t in
       let q = and-r (leb rank g) _ p in
       let r = and-r (eqb (e % 2) 0) _ q in
@@ -75,7 +75,7 @@ module _ (g rank e v room : ℕ) where
         equations = omega arith;
       }
 
-  pub all-fit : Fit g rank e v room → fits g rank e v room ≡ true
+  all-fit : Fit g rank e v room → fits g rank e v room ≡ true
   unfolding fits
   all-fit f =
       let ee = f .equations in
@@ -83,11 +83,18 @@ module _ (g rank e v room : ℕ) where
       and-i _ _ (le-leb g 63 (f .low))
       (and-i _ _ (le-leb rank g (f .pivots)) (and-i _ _ (eq-eqb (e % 2) 0 (omega arith)) (and-i _ _ (eq-eqb (v % 2) 0 (omega arith)) (le-leb (3 * (v / 2)) room (f .roomy)))))
 
+-- ---- the two cases of the promise
+
 module _ (g m rank : ℕ) (eqs vals out : List ℕ) (b : Bool) (e : b ≡ fits g rank (length eqs) (length vals) (length out)) where
   pub concluding-misfit : b ≡ false → leaving out BadShape ≡ concluding g m rank eqs vals out
   unfolding concluding
   concluding-misfit t = rw (sym e ∙ t) refl
 
-  pub concluding-fit : b ≡ true → rowVerdict 1 g m (sys (rowsOf 2 eqs) (rowsOf 2 vals) rank) out ≡ concluding g m rank eqs vals out
+  pub concluding-fit : b ≡ true → (x : Reply) → x ≡ rowVerdict 1 g m (sys (rowsOf 2 eqs) (rowsOf 2 vals) rank) out → x ≡ concluding g m rank eqs vals out
   unfolding concluding
-  concluding-fit t = rw (sym e ∙ t) refl
+  concluding-fit t x p = rw (sym e ∙ t) p
+
+-- for a caller who knows that all fits
+pub concluding-is : (g m rank : ℕ) (eqs vals out : List ℕ) → Fit g rank (length eqs) (length vals) (length out) → concluding g m rank eqs vals out ≡ rowVerdict 1 g m (sys (rowsOf 2 eqs) (rowsOf 2 vals) rank) out
+unfolding concluding
+concluding-is g m rank eqs vals out f = rw (all-fit g rank (length eqs) (length vals) (length out) f) refl

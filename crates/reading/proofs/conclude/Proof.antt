@@ -1,4 +1,3 @@
-use mathlib.Core.Path.{sym, _∙_}
 use borrow.Author.Needs.{needs}
 use borrow.Author.Tests.{not-true, not-false}
 use Rattle.reading.proofs.Fitting.{fit, concluding-fit, concluding-misfit}
@@ -14,7 +13,7 @@ returns c = concluding-misfit _ _ _ _ _ _ _ (c .before .fits2 .ensures) (not-tru
 read-requires : tie.Need-read-requires
 read-requires c κs =
     let test = c .before in
-    let f = fit _ _ _ _ _ (sym (test .before .fits2 .ensures) ∙ not-false _ (test .if1 .left)) in
+    let f = fit _ _ _ _ _ _ (test .before .fits2 .ensures) (not-false _ (test .if1 .left)) in
     ((f .low, f .symbols, f .roomy), (f .pivots, f .equations))
 
 same-length : tie.Need-same-length
@@ -24,7 +23,7 @@ returns-2 : tie.Need-returns-2
 returns-2 c =
     let read = c .before .before in
     let test = read .before .before in
-    read .read .ensures ∙ concluding-fit _ _ _ _ _ _ _ (test .before .fits2 .ensures) (not-false _ (test .if1 .left))
+    concluding-fit _ _ _ _ _ _ _ (test .before .fits2 .ensures) (not-false _ (test .if1 .left)) _ (read .read .ensures)
 
 pub conclude-spec : {M : Type 1} → statement M
 conclude-spec = tie.close (tie.spec fits-requires returns read-requires same-length returns-2)

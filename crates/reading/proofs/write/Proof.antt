@@ -1,16 +1,18 @@
+use Prim.Native.Nat.{zero-le}
+use native.Mathlib.Omega.{arith}
 use borrow.Author.Needs.{needs}
 use Rattle.reading.proofs.Assembling.{written}
 use Rattle.reading.proofs.write.Statement.{statement}
 use Rattle.reading.proofs.write.Tie as tie
 
 sub-settled : tie.Need-sub-settled
-sub-settled c = search needs
+sub-settled c = zero-le
 
 part-settled-start : tie.Need-part-settled-start
-part-settled-start c = search needs
+part-settled-start c = zero-le
 
 part-settled-end : tie.Need-part-settled-end
-part-settled-end c = search needs
+part-settled-end c = omega arith
 
 settled-requires : tie.Need-settled-requires
 settled-requires c κs = search needs
@@ -19,13 +21,13 @@ mul-first : tie.Need-mul-first
 mul-first c = search needs
 
 sub-first : tie.Need-sub-first
-sub-first c = search needs
+sub-first c = omega arith
 
 part-first-start : tie.Need-part-first-start
-part-first-start c = search needs
+part-first-start c = omega arith
 
 part-first-end : tie.Need-part-first-end
-part-first-end c = search needs
+part-first-end c = omega arith
 
 first-requires : tie.Need-first-requires
 first-requires c κs = search needs
@@ -40,13 +42,13 @@ mul-last-2 : tie.Need-mul-last-2
 mul-last-2 c = search needs
 
 sub-last : tie.Need-sub-last
-sub-last c = search needs
+sub-last c = omega arith
 
 part-last-start : tie.Need-part-last-start
-part-last-start c = search needs
+part-last-start c = omega arith
 
 part-last-end : tie.Need-part-last-end
-part-last-end c = search needs
+part-last-end c = omega arith
 
 last-requires : tie.Need-last-requires
 last-requires c κs = search needs
