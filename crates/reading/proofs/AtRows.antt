@@ -1,7 +1,6 @@
 -- One row of two words, as the code reads it.
---     led-not         it has a coefficient where its first word is not 0
---     settled-yes, settled-no, last-is, agreeable-bare, agreeable-led     what the functions answer
---     ones-last       the row's value where the first g unknowns are 1, by the word 2 ^ g - 1
+--     led-none, led-some     it has a coefficient where its first word is not 0
+--     first-is, settled-yes, settled-no, last-is, agreeable-bare, agreeable-led     what the functions answer
 use mathlib.Core.Path.{_≡_, refl, sym, _∙_}
 use Prim.Native.Nat.{ℕ, zero, suc, _+_, _*_, _%_, _/_, _^_, _<_}
 use native.Mathlib.Omega.{arith}

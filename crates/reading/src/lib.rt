@@ -69,10 +69,11 @@ fn read(g: usize, m: usize, rank: usize, eqs: &[u64], vals: &[u64], out: &mut [u
     Answer::Ambiguous { g, m, d }
 }
 
-// Says what the solver's rows know: `eqs` the m equations, `rank` of them with a pivot, `vals` the symbols, over g unknowns.
-// Answers Inconsistent where an equation has no coefficient and the constant 1; else Unique where g is the rank, or
-// Ambiguous with dimension d = g - rank. Both write 3 bytes a symbol: the settled strip (2 where a coefficient is left), the
-// symbols where all unknowns are 0, then where all are 1; later bytes are as found.
+// Says what the solver's rows know, over g unknowns: `eqs` the equations, `rank` of them with a pivot, and `vals` the symbols.
+// Answers Inconsistent where an equation has no coefficient and the constant 1; else Unique where the rank is g, or Ambiguous
+// with dimension d = g - rank. Each with g, and with m, the number of equations that the caller counts. Unique and Ambiguous
+// write 3 bytes a symbol: the settled strip (2 where a coefficient is left), the symbols where all unknowns are 0, and those
+// where all are 1; later bytes are as found.
 // Answers BadShape where g is above 63, the rank above g, a slice no whole number of rows of two words, or the output shorter
 // than 3 bytes a symbol. BadShape and Inconsistent leave the output as found.
 pub fn conclude(
