@@ -1,7 +1,7 @@
 -- The strips put one behind the other, and the verdict on rows of two words.
 --     rows-two         the rows of a list of words, two by two
 --     by-ones          the first g unknowns 1, by the word 2 ^ g - 1
---     written          the three strips, and the bytes behind them
+--     written          the three strips, and the bytes behind them; as-long: as many bytes as before
 --     contradicted, unique-read, ambiguous-read     the three verdicts
 use mathlib.Core.Path.{_≡_, refl, sym, ap, ap₂, _∙_}
 use Prim.Native.Nat.{ℕ, zero, suc, _+_, _-_, _*_, _/_, _%_, _^_, _≤_, _<_}
@@ -13,7 +13,7 @@ use mathlib.Core.Bool.{Bool, true, false, _&&_}
 use mathlib.Core.List.{List, [], _∷_, _++_, map, append-assoc}
 use lib.ListN.{length, drop, replicate, getD, length-append, length-map}
 use lib.Seq.{take-at, drop-at, drop-drop}
-use borrow.Rule.Slice.PartMut.{putMid, postOf}
+use borrow.Rule.Slice.PartMut.{midOf, putMid, postOf, same-len-mid}
 use Rattle.bits.specs.Vectors.{_⊕_, bit, tab, all}
 use Rattle.bits.specs.Rows.{Row}
 use Rattle.bits.specs.Words.{wordBits}
@@ -143,6 +143,14 @@ module _ (vals : List ℕ) (N : ℕ) (lv : length vals ≡ 2 * N) where
       rest =
           let e : N - 0 + (2 * N - N) + (3 * N - 2 * N) ≡ 3 * N = omega arith in
           ap (drop (3 * N - 2 * N)) (drop-drop (2 * N - N) (N - 0) o) ∙ drop-drop (3 * N - 2 * N) (N - 0 + (2 * N - N)) o ∙ ap (λ (k : ℕ). drop k o) e
+
+-- the output with its parts put back, each as long as what it was lent, is as long as before
+pub as-long : (N : ℕ) (o S F L : List ℕ) → length S ≡ length (midOf 0 (N - 0) o) → length F ≡ length (midOf N (2 * N - N) (S ++ postOf 0 (N - 0) o))
+    → length L ≡ length (midOf (2 * N) (3 * N - 2 * N) (putMid N (2 * N - N) (S ++ postOf 0 (N - 0) o) F))
+    → length (putMid (2 * N) (3 * N - 2 * N) (putMid N (2 * N - N) (S ++ postOf 0 (N - 0) o) F) L) ≡ length o
+as-long N o S F L ls lf ll =
+    same-len-mid (2 * N) (3 * N - 2 * N) (putMid N (2 * N - N) (S ++ postOf 0 (N - 0) o) F) L ll
+    ∙ same-len-mid N (2 * N - N) (S ++ postOf 0 (N - 0) o) F lf ∙ same-len-mid 0 (N - 0) o S ls
 
 -- ---- the word of g ones
 

@@ -1,7 +1,8 @@
-use Prim.Native.Nat.{zero-le}
+use Prim.Native.Nat.{_/_, zero-le}
 use native.Mathlib.Omega.{arith}
+use lib.ListN.{length}
 use borrow.Author.Needs.{needs}
-use Rattle.reading.proofs.Assembling.{written}
+use Rattle.reading.proofs.Assembling.{written, as-long}
 use Rattle.reading.proofs.write.Statement.{statement}
 use Rattle.reading.proofs.write.Tie as tie
 
@@ -54,7 +55,12 @@ last-requires : tie.Need-last-requires
 last-requires c κs = search needs
 
 same-length : tie.Need-same-length
-same-length c = search needs
+same-length c =
+    let start = c .before .before .before .before .before .before .before .before .before .before .before .before .before .before .before in
+    let settled = (c .before .before .before .before .before .before .before .before .before .before .before) .settled in
+    let first = (c .before .before .before .before .before .before .before) .first in
+    let last = (c .before .before) .last in
+    as-long (length (start .args .vals .now) / 2) (start .args .out .now) (settled .last .1 .0) (first .last .1 .0) (last .last .1 .1 .0) (settled .kept .1 .0) (first .kept .1 .0) (last .kept .1 .1 .0)
 
 returns : tie.Need-returns
 returns c =
