@@ -5,6 +5,7 @@
 --     row-same, row-other, rows-put                           row j after row i was written
 --     row-left, row-right, row-take, row-drop                 rows of the parts of a list
 --     rows-flatten, flatten-rows, rows-front                  a list of words and its rows
+--     put-behind                                              a part put behind another
 use mathlib.Core.Path.{_≡_, refl, sym, ap, ap₂, _∙_}
 use mathlib.Core.Logic.{_⊎_, inl, inr, ⊎-elim}
 use Prim.Native.Nat.{ℕ, zero, suc, _+_, _-_, _*_, _≤_, _<_}
@@ -17,6 +18,7 @@ use lib.Seq.{paste, length-paste, drop-paste, length-take-le, getD-drop, getD-ta
 use lib.Dec.{leb}
 use lib.Bits.{bitXor, xor-zero-r, xor-zero-l, xor-comm}
 use borrow.Author.Tests.{le-leb}
+use borrow.Rule.Slice.PartMut.{putMid}
 use Rattle.bits.specs.Vectors.{tab}
 use Rattle.bits.specs.Rows.{Row, _⊻_, part, row, rows, Wide, lies, apart, zeroed, copied, added, copiedWithin, addedWithin}
 use Rattle.bits.proofs.Tests.{and-false, tab-snoc, tab-below}
@@ -76,6 +78,9 @@ getD-part l a w k h = rw (getD-take, getD-drop)
 
 pub part-front : (p q : List ℕ) (a w : ℕ) → a + w ≤ length p → part w a (p ++ q) ≡ part w a p
 part-front p q a w h = rw (drop-append-le a p q (omega arith)) (take-append-le w (drop a p) q (simp length-drop (omega arith)))
+
+pub put-behind : (p l x : List ℕ) (a k : ℕ) → length p ≡ a → putMid a k (p ++ l) x ≡ p ++ (x ++ drop k l)
+put-behind p l x a k h = ap₂ {C = List ℕ} (λ s t. s ++ (x ++ drop k t)) (take-at p l a h) (drop-at p l a h)
 
 -- ---- a row that was written
 

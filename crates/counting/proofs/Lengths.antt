@@ -1,26 +1,21 @@
 -- The test of the lengths, in the values that the code has by then: size, N.
---     size-made                          N, within a machine word
 --     shaped-large, -sheet, -word        each test of the code, and what the definition then says
 --     shaped-true, positions             what holds where the lengths fit
 --     counting-none, counting-all        what `counting` comes to
 use mathlib.Core.Path.{_≡_, sym, _∙_}
-use Prim.Native.Nat.{ℕ, _*_, _^_, _%_, _≤_, _<_}
+use Prim.Native.Nat.{ℕ, _*_, _^_, _≤_, _<_}
 use native.Mathlib.Omega.{arith}
-use native.Mathlib.Nat.{one-mul, mod-eq-of-lt}
 use mathlib.Core.Bool.{Bool, true, false, not}
 use mathlib.Core.List.{List}
 use lib.ListN.{length}
 use lib.Dec.{eqb, leb}
-use lib.Pow.{pow-mono, pow-lt}
+use lib.Pow.{pow-mono}
 use borrow.Author.Tests.{leb-true, eqb-true, le-leb, lt-leb, eq-eqb, ne-eqb, not-true}
 use Rattle.bits.proofs.Tests.{and-l, and-r}
 use Rattle.meaning.specs.Limits.{largestN, recordBytes, maskBytes}
 use Rattle.meaning.specs.Sheet.{rules}
 use Rattle.meaning.specs.Open.{unknowns}
 use Rattle.counting.specs.Counting.{shaped, counting}
-
-pub size-made : (n : ℕ) → n < 64 → 1 * 2 ^ n % 18446744073709551616 ≡ 2 ^ n
-size-made n h = rw (one-mul (2 ^ n)) (mod-eq-of-lt (pow-lt {i = n} {j = 64} h))
 
 pub shaped-large : (n s d : ℕ) → largestN < n → shaped n s d ≡ false
 unfolding shaped

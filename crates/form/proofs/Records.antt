@@ -2,14 +2,12 @@
 use mathlib.Core.Path.{_≡_, refl, sym, ap, _∙_}
 use Prim.Native.Nat.{ℕ, zero, suc, _+_, _-_, _*_, _/_, _%_, _^_, _<_, _≤_}
 use native.Mathlib.Omega.{arith}
-use native.Mathlib.Nat.{one-mul, mod-eq-of-lt}
 use native.Mathlib.Numerals.{add-one}
 use mathlib.Core.Bool.{Bool, true, false, _&&_, not}
 use mathlib.Core.List.{List, _∷_}
 use lib.ListN.{length, drop, getD, drop-of-length-le}
 use lib.Seq.{drop-cons}
 use lib.Dec.{eqb, leb}
-use lib.Pow.{pow-lt}
 use borrow.Author.Tests.{le-leb, lt-leb, eq-eqb, ne-eqb}
 use Rattle.bits.specs.Vectors.{pick, tab, zeros, firstPlace}
 use Rattle.bits.proofs.Tests.{length-tab, tab-at, place-found, place-next, place-end, all-fails, all-next, all-end}
@@ -36,11 +34,6 @@ fine-parts s i = go (byte s i 0) (byte s i 1) (eqb (byte s i 2) 0) (eqb (byte s 
     go zero (suc c) a b = rw (lt-leb (suc c) 0 (omega arith), ne-eqb (suc c) 0 (λ e. omega arith)) (and-false (leb (suc c) 1 && a && b))
     go (suc zero) c a b = refl
     go (suc (suc k)) c a b = rw (lt-leb (suc (suc k)) 1 (omega arith))
-
--- ---- powers of two
-
-pub shl-one : (n : ℕ) → n < 64 → 1 * 2 ^ n % 2 ^ 64 ≡ 2 ^ n
-shl-one n h = rw (one-mul (2 ^ n)) (mod-eq-of-lt (pow-lt h))
 
 -- ---- a sheet of whole records has this many
 

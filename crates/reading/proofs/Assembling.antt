@@ -18,7 +18,8 @@ use Rattle.bits.specs.Vectors.{_⊕_, bit, tab, all}
 use Rattle.bits.specs.Rows.{Row}
 use Rattle.bits.specs.Words.{wordBits}
 use Rattle.bits.proofs.Tests.{tab-ext, length-tab}
-use Rattle.form.proofs.Records.{shl-one}
+use Rattle.bits.proofs.RowLaws.{put-behind}
+use Rattle.bits.proofs.Words.{shl-one}
 use Rattle.gf2.specs.Rows.{has, rows, rowsOf}
 use Rattle.gf2.specs.System.{dot, parity, unpack, consistent}
 use Rattle.gf2.proofs.Fill.{dot-append}
@@ -113,9 +114,6 @@ module _ (vals : List ℕ) (N : ℕ) (lv : length vals ≡ 2 * N) where
   last-strip g h =
       tab-ext N (λ (j : ℕ). rowLastBy (2 ^ g - 1) (rowAt vals j)) (λ (j : ℕ). rowLast 1 g (rowAt vals j)) (λ j. ap (λ (b : Bool). bit (b ⊕ constant 1 (rowAt vals j))) (by-ones g h (rowAt vals j)))
       ∙ sym (ap (map (rowLast 1 g)) all-rows ∙ map-tab (rowLast 1 g) N (rowAt vals))
-
-  put-behind : (p l x : List ℕ) (a k : ℕ) → length p ≡ a → putMid a k (p ++ l) x ≡ p ++ (x ++ drop k l)
-  put-behind p l x a k h = ap₂ {C = List ℕ} (λ s t. s ++ (x ++ drop k t)) (take-at p l a h) (drop-at p l a h)
 
   -- the three parts, each put behind the one before
   pub written : (o : List ℕ) (g : ℕ) → g ≤ 63 → (S F L : List ℕ) (z a b c : ℕ) → z ≡ 2 ^ g - 1 → length vals ≡ 2 * a → length vals ≡ 2 * b → length vals ≡ 2 * c

@@ -1,6 +1,6 @@
 -- A record in the parts that the code writes.
 --     small-at, headed           the five numbers as bytes, and three zeros behind them
---     put-behind, drop-blank     a part put behind another; blank bytes past the first
+--     drop-blank, take-blank     blank bytes past the first, and the first
 --     laid-one .. laid-all       the strips, one after the other
 --     put-whole                  a record: its numbers, then its strips
 --     answered, recorded         the record of what decoding answers
@@ -18,6 +18,7 @@ use borrow.Author.Tests.{ltb-true}
 use borrow.Rule.Slice.PartMut.{putMid, postOf}
 use Rattle.bits.specs.Vectors.{tab}
 use Rattle.bits.proofs.Tests.{tab-getD, all-at}
+use Rattle.bits.proofs.RowLaws.{put-behind}
 use Rattle.meaning.specs.Limits.{largestN, stripWidth}
 use Rattle.meaning.specs.Answers.{numbersOf, Reply, leaving, decoding}
 use Rattle.meaning.specs.Stream.{header, padded, answerBytes, answerRecord, refusedRecord}
@@ -44,9 +45,6 @@ pub header-long : (a : Answer) → length (header a) ≡ 8
 header-long a = length-append (numbersOf a) (0 ∷ 0 ∷ 0 ∷ []) ∙ ap (λ (k : ℕ). k + 3) (numbers-five a)
 
 -- ---- parts put one behind the other
-
-pub put-behind : (p l x : List ℕ) (a k : ℕ) → length p ≡ a → putMid a k (p ++ l) x ≡ p ++ (x ++ drop k l)
-put-behind p l x a k h = ap₂ {C = List ℕ} (λ s t. s ++ (x ++ drop k t)) (take-at p l a h) (drop-at p l a h)
 
 pub drop-blank : (a b : ℕ) → drop {A = ℕ} a (replicate b 255) ≡ replicate (b - a) 255
 drop-blank zero b = ap {B = List ℕ} (λ (k : ℕ). replicate k 255) (let e : b ≡ b - 0 = omega arith in e)

@@ -20,7 +20,7 @@ use borrow.Rule.Slice.PartMut.{putMid, postOf}
 use Rattle.bits.specs.Vectors.{tab}
 use Rattle.bits.specs.Rows.{Wide}
 use Rattle.bits.proofs.Tests.{length-tab, tab-snoc, le-or-lt, eq-or-ne}
-use Rattle.bits.proofs.RowLaws.{length-flatten}
+use Rattle.bits.proofs.RowLaws.{length-flatten, put-behind}
 use Rattle.meaning.specs.Limits.{largestN, stripWidth}
 use Rattle.meaning.specs.Answers.{Reply, leaving, decoding}
 use Rattle.meaning.specs.Stream.{header, answerBytes, answerRecord, refusedRecord, sizeOf, roundedUp, wordAt, records, streaming}
@@ -28,7 +28,7 @@ use Rattle.meaning.specs.declared.Answer.{Answer}
 use Rattle.meaning.specs.declared.Answer.the-variants.{Done, BadShape, BadCheck, ShortOutput}
 use Rattle.stream.specs.Laying.{laid}
 use Rattle.stream.proofs.Fitting.{keeps-length}
-use Rattle.stream.proofs.Laying.{header-long, laid-long, recorded, size-low, put-behind}
+use Rattle.stream.proofs.Laying.{header-long, laid-long, recorded, size-low}
 use Rattle.stream.proofs.Counting.{records-shape, records-choice, records-words, counted}
 
 -- the record of word i

@@ -1,6 +1,6 @@
 use native.Mathlib.Omega.{arith}
 use Rattle.meaning.specs.Limits.{largestN}
-use Rattle.counting.proofs.Lengths.{size-made}
+use Rattle.bits.proofs.Words.{shl-one}
 use Rattle.counting.proofs.size_of.Statement.{statement}
 use Rattle.counting.proofs.size_of.Tie as tie
 
@@ -10,7 +10,7 @@ shl-result c = omega arith
 
 returns : tie.Need-returns
 unfolding largestN
-returns c = size-made _ (omega arith)
+returns c = shl-one _ (omega arith)
 
 pub size-of-spec : {M : Type 1} → statement M
 size-of-spec = tie.close (tie.spec shl-result returns)

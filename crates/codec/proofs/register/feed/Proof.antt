@@ -7,7 +7,7 @@ use lib.Seq.{take-all}
 use lib.ListN.{length, take}
 use borrow.Author.Needs.{needs}
 use Rattle.meaning.specs.Answers.{isOne}
-use Rattle.form.proofs.Records.{shl-one}
+use Rattle.bits.proofs.Words.{shl-one}
 use Rattle.codec.specs.Division.{polyWord, Fed}
 use Rattle.codec.proofs.Division.{divisor, length-small, starts, feed-over, feed-under}
 use Rattle.codec.proofs.register.feed.Statement.{statement}

@@ -4,7 +4,7 @@ use Prim.Native.Nat.{ℕ, _-_, _^_, _≤_, _<_}
 use native.Mathlib.Omega.{arith}
 use borrow.Author.Needs.{needs}
 use Rattle.codec.specs.Division.{polyWord}
-use Rattle.form.proofs.Records.{shl-one}
+use Rattle.bits.proofs.Words.{shl-one}
 use Rattle.codec.proofs.Division.{divisor, length-small, Flushed, flush-none, flush-over, flush-under}
 use Rattle.codec.proofs.register.flush.Statement.{statement}
 use Rattle.codec.proofs.register.flush.Tie as tie

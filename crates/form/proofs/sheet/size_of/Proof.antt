@@ -1,6 +1,6 @@
 use native.Mathlib.Omega.{arith}
 use Rattle.meaning.specs.Limits.{largestN}
-use Rattle.form.proofs.Records.{shl-one}
+use Rattle.bits.proofs.Words.{shl-one}
 use Rattle.form.proofs.sheet.size_of.Statement.{statement}
 use Rattle.form.proofs.sheet.size_of.Tie as tie
 
