@@ -5,13 +5,13 @@
 --     written-strips                        the strips: settled, first, last; later bytes as found
 --     same-fate                             demand 3: two words erased in the same places
 --     decode-determined                     any two results that the promise allows are equal
-use mathlib.Core.Path.{_≡_, sym, ap, subst}
+use mathlib.Core.Path.{_≡_, sym, subst}
 use mathlib.Core.Logic.{_↔_}
 use Prim.Native.Nat.{ℕ, _^_, _≤_, _<_}
 use mathlib.Core.Bool.{Bool, false}
 use mathlib.Core.List.{List, [], _∷_, _++_, map}
 use lib.ListN.{length, drop, getD}
-use Rattle.meaning.specs.Sheet.{Rule, rules}
+use Rattle.meaning.specs.Sheet.{rules}
 use Rattle.meaning.specs.Codewords.{erased, candidates}
 use Rattle.meaning.specs.Open.{unknowns, equations}
 use Rattle.meaning.specs.Strips.{strips}

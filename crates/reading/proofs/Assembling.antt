@@ -12,7 +12,7 @@ use lib.Pow.{pow-lt, pow-pos}
 use mathlib.Core.Bool.{Bool, true, false, _&&_}
 use mathlib.Core.List.{List, [], _∷_, _++_, map, append-assoc}
 use lib.ListN.{length, drop, replicate, getD, length-append, length-map}
-use lib.Seq.{take-at, drop-at, drop-drop}
+use lib.Seq.{drop-drop}
 use borrow.Rule.Slice.PartMut.{midOf, putMid, postOf, same-len-mid}
 use Rattle.bits.specs.Vectors.{_⊕_, bit, tab, all}
 use Rattle.bits.specs.Rows.{Row}

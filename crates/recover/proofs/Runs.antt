@@ -1,8 +1,7 @@
 -- The records of a run have room; so has the one record of an input whose sheet or choice has a wrong length.
-use mathlib.Core.Path.{_≡_, refl, sym, ap, subst, _∙_}
-use Prim.Native.Nat.{ℕ, suc, _*_, _%_, _^_, _≤_, _<_}
+use mathlib.Core.Path.{_≡_, refl, ap, _∙_}
+use Prim.Native.Nat.{ℕ, _*_, _%_, _^_, _≤_, _<_}
 use native.Mathlib.Omega.{arith}
-use native.Mathlib.Nat.{mul-le-mul-right}
 use mathlib.Core.List.{List}
 use lib.ListN.{length}
 use lib.Pow.{pow-pos, pow-mono}

@@ -5,22 +5,22 @@
 --     numbers-five         there are five
 use mathlib.Core.Path.{_≡_, refl, sym, ap, _∙_}
 use mathlib.Core.Logic.{_⊎_, inl, inr}
-use Prim.Native.Nat.{ℕ, zero, suc, _+_, _-_, _*_, _^_, _≤_, _<_}
+use Prim.Native.Nat.{ℕ, _+_, _-_, _*_, _^_, _≤_, _<_}
 use native.Mathlib.Omega.{arith}
 use mathlib.Core.Bool.{Bool, true, false}
-use mathlib.Core.List.{List, [], _∷_, _++_, map, List·Memᴰ, List·Memᴰ·head, List·Memᴰ·tail}
-use lib.ListN.{length, drop, length-append, length-drop, length-map}
+use mathlib.Core.List.{List, [], _∷_, map, List·Memᴰ, List·Memᴰ·head, List·Memᴰ·tail}
+use lib.ListN.{length, length-append, length-drop, length-map}
 use lib.Dec.{ltb}
 use lib.Pow.{pow-mono}
 use borrow.Author.Tests.{ltb-true, ltb-false, lt-ltb, eqb-true, not-false}
 use Rattle.bits.specs.Vectors.{bit, pick, ones, firstPlace}
-use Rattle.bits.proofs.Tests.{length-tab, count-le}
+use Rattle.bits.proofs.Tests.{length-tab}
 use Rattle.meaning.specs.Limits.{largestN}
-use Rattle.meaning.specs.Sheet.{Rule, free, frozen, rules, early, badRecord}
+use Rattle.meaning.specs.Sheet.{Rule, free, frozen, rules, badRecord}
 use Rattle.meaning.specs.Codewords.{candidates}
-use Rattle.meaning.specs.Open.{openFree, closedFrozen, openAll, isOpen, unknowns, equations}
-use Rattle.meaning.specs.Strips.{settledAt, settled, first, last, strips, dimension}
-use Rattle.meaning.specs.Answers.{Refusal, firstOf, Reply, leaving, numbersOf, sheetRefusals, wordRefusals, formRefusals, decodeRefusals, refuses, verdict, decoding}
+use Rattle.meaning.specs.Open.{openFree, closedFrozen, openAll, unknowns, equations}
+use Rattle.meaning.specs.Strips.{settledAt, settled, last, strips, dimension}
+use Rattle.meaning.specs.Answers.{Refusal, firstOf, Reply, leaving, numbersOf, sheetRefusals, wordRefusals, formRefusals, decodeRefusals, verdict, decoding}
 use Rattle.meaning.specs.declared.Answer.{Answer}
 use Rattle.meaning.specs.declared.Answer.the-variants.{Done, Unique, Ambiguous, Inconsistent, BadShape, BadRecord, BadCheck, BadLength, BadSymbol, ShortOutput, BadCeiling, TooMany}
 use Rattle.meaning.proofs.Sound.{length-rules}

@@ -7,12 +7,10 @@
 use mathlib.Core.Path.{_≡_, refl, sym, ap, ap₂, subst, _∙_}
 use Prim.Native.Nat.{ℕ, zero, suc, _+_, _-_, _*_, _^_, _≤_, _<_}
 use native.Mathlib.Omega.{arith}
-use native.Mathlib.Nat.{suc-add, zero-add}
 use lib.Pow.{pow-mono}
-use mathlib.Core.Bool.{Bool, true}
 use mathlib.Core.List.{List, [], _∷_, _++_, append-assoc, append-nil}
 use lib.ListN.{length, take, drop, getD, replicate, length-append, length-take, length-drop, length-replicate}
-use lib.Seq.{take-all, take-at, drop-at, drop-drop, take-length, drop-length}
+use lib.Seq.{take-all, drop-at, take-length}
 use lib.Dec.{ltb}
 use borrow.Author.Tests.{ltb-true}
 use borrow.Rule.Slice.PartMut.{putMid, postOf}
@@ -21,7 +19,7 @@ use Rattle.bits.proofs.Tests.{tab-getD, all-at}
 use Rattle.bits.proofs.RowLaws.{put-behind}
 use Rattle.meaning.specs.Limits.{largestN, stripWidth}
 use Rattle.meaning.specs.Answers.{numbersOf, Reply, leaving, decoding}
-use Rattle.meaning.specs.Stream.{header, padded, answerBytes, answerRecord, refusedRecord}
+use Rattle.meaning.specs.Stream.{header, padded, answerRecord}
 use Rattle.meaning.specs.declared.Answer.{Answer}
 use Rattle.stream.specs.Laying.{small, Small, laid}
 use Rattle.stream.proofs.Fitting.{numbers-five, fits-a-byte, keeps-length}

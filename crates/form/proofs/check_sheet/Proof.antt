@@ -2,7 +2,6 @@ use native.Mathlib.Omega.{arith}
 use lib.Pow.{pow-mono}
 use borrow.Author.Needs.{needs}
 use Rattle.meaning.specs.Limits.{largestN, recordBytes, maskBytes}
-use Rattle.meaning.specs.Sheet.{frees}
 use Rattle.form.proofs.Checking.{too-large, not-long, bad-record, bad-check, done}
 use Rattle.form.proofs.check_sheet.Statement.{statement}
 use Rattle.form.proofs.check_sheet.Tie as tie
