@@ -23,7 +23,11 @@ part-write-start c = search needs
 
 part-write-end : tie.Need-part-write-end
 unfolding answerBytes stripWidth
-part-write-end c = omega (arith, c .before .before .before .before .before .before .before .before .before .before .pre, c .before .before .before .before .before .records .ensures, c .before .before .out .given)
+part-write-end c =
+    let at-out = c .before .before in
+    let at-records = at-out .before .before .before in
+    let start = at-records .before .before .before .before .before in
+    omega (arith, start .pre, at-records .records .ensures, at-out .out .given)
 
 write-requires : tie.Need-write-requires
 write-requires c κs = search needs

@@ -20,7 +20,11 @@ part-answer-end c = search needs
 
 answer-requires : tie.Need-answer-requires
 unfolding largestN
-answer-requires c κs = let S = c .before .before .before .before .before .before .before .before .before in shape-room (S .args .sheet .now) (S .args .choice .now) _ _ (c .before .before .before .before .size .ensures) _ (S .pre .1) (c .before .before .before .if1 .taken)
+answer-requires c κs =
+    let then1 = c .before .before .before in
+    let at-size = then1 .before in
+    let start = at-size .before .before .before .before .before in
+    shape-room (start .args .sheet .now) (start .args .choice .now) _ _ (at-size .size .ensures) _ (start .pre .1) (then1 .if1 .taken)
 
 sub-answer-2 : tie.Need-sub-answer-2
 sub-answer-2 c = search needs
@@ -33,7 +37,12 @@ part-answer-end-2 c = search needs
 
 answer-requires-2 : tie.Need-answer-requires-2
 unfolding largestN
-answer-requires-2 c κs = let S = c .before .before .before .before .before .before .before .before .before .before in choice-room (S .args .sheet .now) (S .args .choice .now) _ _ (c .before .before .before .before .before .size .ensures) _ (S .pre .1) (c .before .before .before .before .if1 .left) (c .before .before .before .if2 .taken)
+answer-requires-2 c κs =
+    let then2 = c .before .before .before in
+    let else1 = then2 .before in
+    let at-size = else1 .before in
+    let start = at-size .before .before .before .before .before in
+    choice-room (start .args .sheet .now) (start .args .choice .now) _ _ (at-size .size .ensures) _ (start .pre .1) (else1 .if1 .left) (then2 .if2 .taken)
 
 shl-turns : tie.Need-shl-turns
 unfolding largestN
@@ -52,9 +61,12 @@ part-turns-end c = let (e, l) = run-is _ (c .before .if1 .left) in omega (arith,
 turns-requires : tie.Need-turns-requires
 unfolding largestN
 turns-requires c κs =
-    let S = c .before .before .before .before .before .before .before .before .before in
-    let (e, l) = run-is _ (c .before .before .before .if1 .left) in
-    ready-same _ _ _ _ _ _ (simp length-take (omega (arith, e, l, S .pre .0))) (S .pre .1) (ready (S .args .sheet .now) (S .args .choice .now) (S .args .input .now) _ (c .before .before .before .before .size .ensures) (c .before .before .before .if1 .left) (c .before .before .if2 .left) _ e)
+    let else2 = c .before .before in
+    let else1 = else2 .before in
+    let at-size = else1 .before in
+    let start = at-size .before .before .before .before .before in
+    let (e, l) = run-is _ (else1 .if1 .left) in
+    ready-same _ _ _ _ _ _ (simp length-take (omega (arith, e, l, start .pre .0))) (start .pre .1) (ready (start .args .sheet .now) (start .args .choice .now) (start .args .input .now) _ (at-size .size .ensures) (else1 .if1 .left) (else2 .if2 .left) _ e)
 
 same-length : tie.Need-same-length
 same-length c = search needs

@@ -19,8 +19,9 @@ part-answer-end c = search needs
 
 answer-requires : tie.Need-answer-requires
 answer-requires c κs =
-    let start = c .before .before .before .before .before .before .before .before .before .before .before in
-    run-room (start .args .sheet .now) (start .args .choice .now) _ _ (start .pre) _ (simp length-take (omega (arith, c .before .before .before .before .input .given)))
+    let at-input = c .before .before .before .before in
+    let start = at-input .before .before .before .before .before .before .before in
+    run-room (start .args .sheet .now) (start .args .choice .now) _ _ (start .pre) _ (simp length-take (omega (arith, at-input .input .given)))
 
 same-length : tie.Need-same-length
 same-length c = search needs

@@ -15,7 +15,10 @@ loop-holds : tie.Need-loop-holds Inv-loop μ-loop
 loop-holds c = (refl, refl)
 
 turn-requires : tie.Need-turn-requires Inv-loop μ-loop
-turn-requires c κs = ready-same _ _ _ _ _ _ (c .before .before .before .loop .inv .0) (c .before .before .before .loop .inv .1) (c .before .before .before .before .before .before .before .before .pre)
+turn-requires c κs =
+    let at-loop = c .before .before .before in
+    let start = at-loop .before .before .before .before .before in
+    ready-same _ _ _ _ _ _ (at-loop .loop .inv .0) (at-loop .loop .inv .1) (start .pre)
 
 sub-left : tie.Need-sub-left Inv-loop μ-loop
 sub-left c = search needs

@@ -10,18 +10,30 @@ records-requires c κs = search needs
 
 returns : tie.Need-returns
 unfolding answerBytes stripWidth
-returns c = let A = c .before .before .before .before .before .before .args in short (A .sheet .now) (A .choice .now) (A .input .now) (A .out .now) _ (c .before .records .ensures) (c .if1 .taken)
+returns c =
+    let start = c .before .before .before .before .before .before in
+    let A = start .args in
+    short (A .sheet .now) (A .choice .now) (A .input .now) (A .out .now) _ (c .before .records .ensures) (c .if1 .taken)
 
 write-requires : tie.Need-write-requires
 unfolding answerBytes stripWidth
-write-requires c κs = let A = c .before .before .before .before .before .before .before .args in (c .before .before .records .ensures, room (A .sheet .now) (A .choice .now) (A .input .now) (A .out .now) _ (c .before .before .records .ensures) (c .before .if1 .left))
+write-requires c κs =
+    let at-records = c .before .before in
+    let start = at-records .before .before .before .before .before in
+    let A = start .args in (at-records .records .ensures, room (A .sheet .now) (A .choice .now) (A .input .now) (A .out .now) _ (at-records .records .ensures) (c .before .if1 .left))
 
 same-length : tie.Need-same-length
 same-length c = search needs
 
 returns-2 : tie.Need-returns-2
 unfolding answerBytes stripWidth
-returns-2 c = let A = c .before .before .before .before .before .before .before .before .before .before .args in streamed (A .sheet .now) (A .choice .now) (A .input .now) (A .out .now) _ (c .before .before .before .before .before .records .ensures) _ (c .before .before .before .before .if1 .left) (c .before .before .write .ensures)
+returns-2 c =
+    let at-write = c .before .before in
+    let else1 = at-write .before .before in
+    let at-records = else1 .before in
+    let start = at-records .before .before .before .before .before in
+    let A = start .args in
+    streamed (A .sheet .now) (A .choice .now) (A .input .now) (A .out .now) _ (at-records .records .ensures) _ (else1 .if1 .left) (at-write .write .ensures)
 
 pub answer-spec : {M : Type 1} → statement M
 answer-spec = tie.close (tie.spec records-requires returns write-requires same-length returns-2)

@@ -11,11 +11,16 @@ size-requires c κs = search needs
 
 returns : tie.Need-returns
 unfolding largestN
-returns c = one-shape (c .before .before .before .before .before .args .sheet .now) (c .before .before .before .before .before .args .choice .now) (c .before .before .before .before .before .args .input .now) _ (c .before .size .ensures) (c .if1 .taken)
+returns c =
+    let start = c .before .before .before .before .before in
+    one-shape (start .args .sheet .now) (start .args .choice .now) (start .args .input .now) _ (c .before .size .ensures) (c .if1 .taken)
 
 returns-2 : tie.Need-returns-2
 unfolding largestN
-returns-2 c = one-choice (c .before .before .before .before .before .before .args .sheet .now) (c .before .before .before .before .before .before .args .choice .now) (c .before .before .before .before .before .before .args .input .now) _ (c .before .before .size .ensures) (c .before .if1 .left) (c .if2 .taken)
+returns-2 c =
+    let at-size = c .before .before in
+    let start = at-size .before .before .before .before in
+    one-choice (start .args .sheet .now) (start .args .choice .now) (start .args .input .now) _ (at-size .size .ensures) (c .before .if1 .left) (c .if2 .taken)
 
 size-of-requires : tie.Need-size-of-requires
 unfolding largestN
@@ -26,7 +31,12 @@ rounded-up-requires c κs = omega (arith, c .size-of .ensures, pow-pos (c .befor
 
 returns-3 : tie.Need-returns-3
 unfolding largestN
-returns-3 c = counted (c .before .before .before .before .before .before .before .before .args .sheet .now) (c .before .before .before .before .before .before .before .before .args .choice .now) (c .before .before .before .before .before .before .before .before .args .input .now) _ (c .before .before .before .before .size .ensures) (c .before .before .before .if1 .left) (c .before .before .if2 .left) _ (c .before .size-of .ensures) _ (c .rounded-up .ensures)
+returns-3 c =
+    let else2 = c .before .before in
+    let else1 = else2 .before in
+    let at-size = else1 .before in
+    let start = at-size .before .before .before .before in
+    counted (start .args .sheet .now) (start .args .choice .now) (start .args .input .now) _ (at-size .size .ensures) (else1 .if1 .left) (else2 .if2 .left) _ (c .before .size-of .ensures) _ (c .rounded-up .ensures)
 
 pub records-spec : {M : Type 1} → statement M
 records-spec =

@@ -26,7 +26,10 @@ mul-if1 c = omega (arith, c .size-of .ensures, size-low _ (c .before .loop-test 
 
 returns : tie.Need-returns Inv-loop μ-loop
 unfolding largestN recordBytes maskBytes
-returns c = size-found _ _ (c .before .before .before .loop .inv .1) (c .before .before .loop-test .taken) (c .if1 .taken ∙ ap (λ (k : ℕ). k * 20) (c .before .size-of .ensures))
+returns c =
+    let in-loop = c .before .before in
+    let at-loop = in-loop .before in
+    size-found _ _ (at-loop .loop .inv .1) (in-loop .loop-test .taken) (c .if1 .taken ∙ ap (λ (k : ℕ). k * 20) (c .before .size-of .ensures))
 
 add-n : tie.Need-add-n Inv-loop μ-loop
 add-n c = search needs
@@ -36,7 +39,10 @@ loop-less c = search needs
 
 loop-again : tie.Need-loop-again Inv-loop μ-loop
 unfolding largestN recordBytes maskBytes
-loop-again c = (omega arith, size-next _ _ (c .before .before .before .loop .inv .1) (c .before .before .loop-test .taken) (λ e. c .if1 .left (e ∙ ap (λ (k : ℕ). k * 20) (sym (c .before .size-of .ensures)))))
+loop-again c =
+    let in-loop = c .before .before in
+    let at-loop = in-loop .before in
+    (omega arith, size-next _ _ (at-loop .loop .inv .1) (in-loop .loop-test .taken) (λ e. c .if1 .left (e ∙ ap (λ (k : ℕ). k * 20) (sym (c .before .size-of .ensures)))))
 
 returns-2 : tie.Need-returns-2 Inv-loop μ-loop
 unfolding largestN

@@ -27,10 +27,16 @@ unfolding flatten
 loop-holds c = (omega arith, refl, refl)
 
 mul-from : tie.Need-mul-from Inv-loop μ-loop
-mul-from c = omega (arith, begins (length (c .before .before .before .before .before .before .args .input .now)) (c .before .before .size-of .result) (c .before .before .before .before .before .before .args .n) (c .before .loop .i) (c .before .before .before .before .before .before .args .k) (c .before .before .size-of .ensures) (c .before .before .before .before .before .before .pre .1) (c .loop-test .taken))
+mul-from c =
+    let at-size-of = c .before .before in
+    let start = at-size-of .before .before .before .before in
+    omega (arith, begins (length (start .args .input .now)) (at-size-of .size-of .result) (start .args .n) (c .before .loop .i) (start .args .k) (at-size-of .size-of .ensures) (start .pre .1) (c .loop-test .taken))
 
 end-of-requires : tie.Need-end-of-requires Inv-loop μ-loop
-end-of-requires c κs = omega (arith, begins (length (c .before .before .before .before .before .before .args .input .now)) (c .before .before .size-of .result) (c .before .before .before .before .before .before .args .n) (c .before .loop .i) (c .before .before .before .before .before .before .args .k) (c .before .before .size-of .ensures) (c .before .before .before .before .before .before .pre .1) (c .loop-test .taken))
+end-of-requires c κs =
+    let at-size-of = c .before .before in
+    let start = at-size-of .before .before .before .before in
+    omega (arith, begins (length (start .args .input .now)) (at-size-of .size-of .result) (start .args .n) (c .before .loop .i) (start .args .k) (at-size-of .size-of .ensures) (start .pre .1) (c .loop-test .taken))
 
 mul-to : tie.Need-mul-to Inv-loop μ-loop
 unfolding answerBytes stripWidth
@@ -57,11 +63,19 @@ part-answer-start-2 c = omega arith
 
 part-answer-end-2 : tie.Need-part-answer-end-2 Inv-loop μ-loop
 unfolding answerBytes stripWidth
-part-answer-end-2 c = omega (arith, c .before .before .loop-test .taken, c .before .before .before .loop .inv .1, c .before .before .before .before .before .before .before .before .pre .2)
+part-answer-end-2 c =
+    let in-loop = c .before .before in
+    let at-loop = in-loop .before in
+    let start = at-loop .before .before .before .before .before in
+    omega (arith, in-loop .loop-test .taken, at-loop .loop .inv .1, start .pre .2)
 
 answer-requires : tie.Need-answer-requires Inv-loop μ-loop
 unfolding answerBytes stripWidth
-answer-requires c κs = (c .before .before .before .before .before .before .before .before .before .pre .0, simp (length-take, length-drop) (omega (arith, c .before .before .before .loop-test .taken, c .before .before .before .before .loop .inv .1, c .before .before .before .before .before .before .before .before .before .pre .2)))
+answer-requires c κs =
+    let in-loop = c .before .before .before in
+    let at-loop = in-loop .before in
+    let start = at-loop .before .before .before .before .before in
+    (start .pre .0, simp (length-take, length-drop) (omega (arith, in-loop .loop-test .taken, at-loop .loop .inv .1, start .pre .2)))
 
 add-i : tie.Need-add-i Inv-loop μ-loop
 add-i c = search needs
@@ -72,14 +86,19 @@ loop-less c = search needs
 loop-again : tie.Need-loop-again Inv-loop μ-loop
 unfolding answerBytes stripWidth
 loop-again c =
-    let start = c .before .before .before .before .before .before .before .before .before .before .before .before in
+    let at-answer = c .before .before in
+    let at-end-of = at-answer .before .before .before in
+    let in-loop = at-end-of .before in
+    let at-loop = in-loop .before in
+    let at-size-of = at-loop .before in
+    let start = at-size-of .before .before .before .before in
     let A = start .args in
-    let l = c .before .before .before .before .before .before .before .loop in
-    let x : c .before .before .answer .last .1 .1 .1 .1 .1 .0 ≡ recordAt (A .n) (A .sheet .now) (A .r) (A .ceiling) (A .input .now) (l .i) = c .before .before .answer .ensures
-    ∙ ap (answerRecord (A .n) (A .sheet .now) (A .r) (A .ceiling)) (word-is (A .n) (A .input .now) (l .i) _ _ (c .before .before .before .before .before .before .before .before .size-of .ensures) (c .before .before .before .before .before .end-of .ensures .2)) in (
-      omega (arith, c .before .before .before .before .before .before .loop-test .taken),
+    let l = at-loop .loop in
+    let x : at-answer .answer .last .1 .1 .1 .1 .1 .0 ≡ recordAt (A .n) (A .sheet .now) (A .r) (A .ceiling) (A .input .now) (l .i) = at-answer .answer .ensures
+    ∙ ap (answerRecord (A .n) (A .sheet .now) (A .r) (A .ceiling)) (word-is (A .n) (A .input .now) (l .i) _ _ (at-size-of .size-of .ensures) (at-end-of .end-of .ensures .2)) in (
+      omega (arith, in-loop .loop-test .taken),
       c .before .out .given .1 ∙ l .inv .1,
-      ap (λ (o : List ℕ). putMid (l .i * 392) (l .i * 392 + 392 - l .i * 392) o (c .before .before .answer .last .1 .1 .1 .1 .1 .0)) (l .inv .2)
+      ap (λ (o : List ℕ). putMid (l .i * 392) (l .i * 392 + 392 - l .i * 392) o (at-answer .answer .last .1 .1 .1 .1 .1 .0)) (l .inv .2)
           ∙ put-record 392 (recordAt (A .n) (A .sheet .now) (A .r) (A .ceiling) (A .input .now)) (λ i. record-long (A .n) (A .sheet .now) (A .r) (A .ceiling) _ (start .pre .0)) (A .out .now) (l .i) _ x,
     )
 
@@ -88,7 +107,10 @@ same-length c = search needs
 
 returns : tie.Need-returns Inv-loop μ-loop
 unfolding answerBytes stripWidth
-returns c = let l = c .before .loop in let q : l .i ≡ c .before .before .before .before .before .before .args .k = omega (arith, c .loop-test .left, l .inv .0) in rw (← q) (l .inv .2)
+returns c =
+    let start = c .before .before .before .before .before .before in
+    let l = c .before .loop in
+    let q : l .i ≡ start .args .k = omega (arith, c .loop-test .left, l .inv .0) in rw (← q) (l .inv .2)
 
 pub words-spec : {M : Type 1} → statement M
 words-spec =

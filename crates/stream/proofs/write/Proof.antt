@@ -21,11 +21,17 @@ part-refuse-start c = search needs
 
 part-refuse-end : tie.Need-part-refuse-end
 unfolding answerBytes stripWidth largestN
-part-refuse-end c = let S = c .before .before .before .before .before .before in let A = S .args in shape-room (A .sheet .now) (A .choice .now) (A .input .now) (A .out .now) _ (c .before .size .ensures) (A .k) (S .pre .0) (c .if1 .taken) (S .pre .1)
+part-refuse-end c =
+    let start = c .before .before .before .before .before .before in
+    let A = start .args in
+    shape-room (A .sheet .now) (A .choice .now) (A .input .now) (A .out .now) _ (c .before .size .ensures) (A .k) (start .pre .0) (c .if1 .taken) (start .pre .1)
 
 refuse-requires : tie.Need-refuse-requires
 unfolding answerBytes stripWidth largestN small
-refuse-requires c κs = let S = c .before .before .before .before .before .before .before in let A = S .args in (refl, simp length-take (omega (arith, shape-room (A .sheet .now) (A .choice .now) (A .input .now) (A .out .now) _ (c .before .before .size .ensures) (A .k) (S .pre .0) (c .before .if1 .taken) (S .pre .1))))
+refuse-requires c κs =
+    let at-size = c .before .before in
+    let start = at-size .before .before .before .before .before in
+    let A = start .args in (refl, simp length-take (omega (arith, shape-room (A .sheet .now) (A .choice .now) (A .input .now) (A .out .now) _ (at-size .size .ensures) (A .k) (start .pre .0) (c .before .if1 .taken) (start .pre .1))))
 
 sub-refuse-2 : tie.Need-sub-refuse-2
 sub-refuse-2 c = search needs
@@ -35,11 +41,19 @@ part-refuse-start-2 c = search needs
 
 part-refuse-end-2 : tie.Need-part-refuse-end-2
 unfolding answerBytes stripWidth largestN
-part-refuse-end-2 c = let S = c .before .before .before .before .before .before .before in let A = S .args in choice-room (A .sheet .now) (A .choice .now) (A .input .now) (A .out .now) _ (c .before .before .size .ensures) (A .k) (S .pre .0) (c .before .if1 .left) (c .if2 .taken) (S .pre .1)
+part-refuse-end-2 c =
+    let at-size = c .before .before in
+    let start = at-size .before .before .before .before .before in
+    let A = start .args in
+    choice-room (A .sheet .now) (A .choice .now) (A .input .now) (A .out .now) _ (at-size .size .ensures) (A .k) (start .pre .0) (c .before .if1 .left) (c .if2 .taken) (start .pre .1)
 
 refuse-requires-2 : tie.Need-refuse-requires-2
 unfolding answerBytes stripWidth largestN small
-refuse-requires-2 c κs = let S = c .before .before .before .before .before .before .before .before in let A = S .args in (refl, simp length-take (omega (arith, choice-room (A .sheet .now) (A .choice .now) (A .input .now) (A .out .now) _ (c .before .before .before .size .ensures) (A .k) (S .pre .0) (c .before .before .if1 .left) (c .before .if2 .taken) (S .pre .1))))
+refuse-requires-2 c κs =
+    let else1 = c .before .before in
+    let at-size = else1 .before in
+    let start = at-size .before .before .before .before .before in
+    let A = start .args in (refl, simp length-take (omega (arith, choice-room (A .sheet .now) (A .choice .now) (A .input .now) (A .out .now) _ (at-size .size .ensures) (A .k) (start .pre .0) (else1 .if1 .left) (c .before .if2 .taken) (start .pre .1))))
 
 shared-slice-read-words : tie.Need-shared-slice-read-words
 shared-slice-read-words c = omega (arith, c .before .if2 .left)
@@ -55,28 +69,53 @@ cast-words-2 c = omega (arith, c .shared-slice-known5 .given 1)
 
 words-requires : tie.Need-words-requires
 unfolding largestN
-words-requires c κs = let S = c .before .before .before .before .before .before .before .before .before .before in let A = S .args in (c .before .before .before .before .if1 .left, words-count (A .sheet .now) (A .choice .now) (A .input .now) (A .out .now) _ (c .before .before .before .before .before .size .ensures) (A .k) (S .pre .0) (c .before .before .before .before .if1 .left) (c .before .before .before .if2 .left), S .pre .1)
+words-requires c κs =
+    let else2 = c .before .before .before in
+    let else1 = else2 .before in
+    let at-size = else1 .before in
+    let start = at-size .before .before .before .before .before in
+    let A = start .args in (else1 .if1 .left, words-count (A .sheet .now) (A .choice .now) (A .input .now) (A .out .now) _ (at-size .size .ensures) (A .k) (start .pre .0) (else1 .if1 .left) (else2 .if2 .left), start .pre .1)
 
 same-length : tie.Need-same-length
 same-length c = search needs
 
 returns : tie.Need-returns
 unfolding answerBytes stripWidth largestN
-returns c = let S = c .before .before .before .before .before .before .before .before .before .before in let A = S .args in shape-alone (A .sheet .now) (A .choice .now) (A .input .now) (A .out .now) _ (c .before .before .before .before .before .size .ensures) (A .k) (S .pre .0) (c .before .before .before .before .if1 .taken) _ (c .before .before .refuse .ensures)
+returns c =
+    let at-refuse = c .before .before in
+    let then1 = at-refuse .before .before in
+    let at-size = then1 .before in
+    let start = at-size .before .before .before .before .before in
+    let A = start .args in
+    shape-alone (A .sheet .now) (A .choice .now) (A .input .now) (A .out .now) _ (at-size .size .ensures) (A .k) (start .pre .0) (then1 .if1 .taken) _ (at-refuse .refuse .ensures)
 
 same-length-2 : tie.Need-same-length-2
 same-length-2 c = search needs
 
 returns-2 : tie.Need-returns-2
 unfolding answerBytes stripWidth largestN
-returns-2 c = let S = c .before .before .before .before .before .before .before .before .before .before .before in let A = S .args in choice-alone (A .sheet .now) (A .choice .now) (A .input .now) (A .out .now) _ (c .before .before .before .before .before .before .size .ensures) (A .k) (S .pre .0) (c .before .before .before .before .before .if1 .left) (c .before .before .before .before .if2 .taken) _ (c .before .before .refuse2 .ensures)
+returns-2 c =
+    let at-refuse2 = c .before .before in
+    let then2 = at-refuse2 .before .before in
+    let else1 = then2 .before in
+    let at-size = else1 .before in
+    let start = at-size .before .before .before .before .before in
+    let A = start .args in
+    choice-alone (A .sheet .now) (A .choice .now) (A .input .now) (A .out .now) _ (at-size .size .ensures) (A .k) (start .pre .0) (else1 .if1 .left) (then2 .if2 .taken) _ (at-refuse2 .refuse2 .ensures)
 
 same-length-3 : tie.Need-same-length-3
 same-length-3 c = search needs
 
 returns-3 : tie.Need-returns-3
 unfolding largestN
-returns-3 c = let S = c .before .before .before .before .before .before .before .before .before .before .before .before .before in let A = S .args in words-all (A .sheet .now) (A .choice .now) (A .input .now) (A .out .now) _ (c .before .before .before .before .before .before .before .before .size .ensures) (A .k) (S .pre .0) (c .before .before .before .before .before .before .before .if1 .left) (c .before .before .before .before .before .before .if2 .left) _ (c .before .before .words .ensures)
+returns-3 c =
+    let at-words = c .before .before in
+    let else2 = at-words .before .before .before .before in
+    let else1 = else2 .before in
+    let at-size = else1 .before in
+    let start = at-size .before .before .before .before .before in
+    let A = start .args in
+    words-all (A .sheet .now) (A .choice .now) (A .input .now) (A .out .now) _ (at-size .size .ensures) (A .k) (start .pre .0) (else1 .if1 .left) (else2 .if2 .left) _ (at-words .words .ensures)
 
 pub write-spec : {M : Type 1} → statement M
 write-spec =

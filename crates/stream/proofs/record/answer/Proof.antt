@@ -39,8 +39,11 @@ slice-aggregate-answer-in c = search needs
 
 answer-in-requires : tie.Need-answer-in-requires
 answer-in-requires c κs =
-    let size = c .before .before .before in
-    let start = c .before .before .before .before .before .before .before .before .before in (start .pre .0, part-blank _ _ _ (c .before .before .before .before .before .blank .ensures) (low-at size) (size .size-of .ensures), c .before .before .before .before .blank2 .ensures, start .pre .1)
+    let at-size-of = c .before .before .before in
+    let at-blank2 = at-size-of .before in
+    let at-blank = at-blank2 .before in
+    let start = at-blank .before .before .before .before in
+    (start .pre .0, part-blank _ _ _ (at-blank .blank .ensures) (low-at at-size-of) (at-size-of .size-of .ensures), at-blank2 .blank2 .ensures, start .pre .1)
 
 same-length : tie.Need-same-length
 same-length c = search needs

@@ -27,15 +27,21 @@ size-of-requires : tie.Need-size-of-requires
 size-of-requires c κs = c .before .before .before .before .before .before .before .before .before .before .pre .0
 
 lay-requires : tie.Need-lay-requires
-lay-requires c κs = (found-long (c .before) .0, found-long (c .before) .1, c .before .before .before .before .before .before .before .before .before .before .before .before .pre .2)
+lay-requires c κs =
+    let at-size-of = c .before in
+    let start = at-size-of .before .before .before .before .before .before .before .before .before .before .before in
+    (found-long (at-size-of) .0, found-long (at-size-of) .1, start .pre .2)
 
 put-requires : tie.Need-put-requires
 put-requires c κs =
-    let start = c .before .before .before .before .before .before .before .before .before .before .before .before .before .before .before .before .before in
+    let at-lay = c .before .before .before .before in
+    let at-size-of = at-lay .before .before in
+    let at-decode = at-size-of .before .before .before .before in
+    let start = at-decode .before .before .before .before .before .before .before in
     let A = start .args in
-    let (l, w) = found-long (c .before .before .before .before .before .before) in (
-      answered-small (A .n) (A .sheet .now) (A .r) (A .ceiling) (A .word .now) (A .found .now) _ _ (c .before .before .before .before .before .before .before .before .before .before .decode .ensures) (start .pre .0),
-      ap length (c .before .before .before .before .lay .ensures) ∙ laid-long _ _ l w,
+    let (l, w) = found-long (at-size-of) in (
+      answered-small (A .n) (A .sheet .now) (A .r) (A .ceiling) (A .word .now) (A .found .now) _ _ (at-decode .decode .ensures) (start .pre .0),
+      ap length (at-lay .lay .ensures) ∙ laid-long _ _ l w,
       start .pre .3,
     )
 
@@ -50,10 +56,14 @@ same-length-3 c = search needs
 
 returns : tie.Need-returns
 returns c =
-    let start = c .before .before .before .before .before .before .before .before .before .before .before .before .before .before .before .before .before .before .before .before in
+    let at-put = c .before .before in
+    let at-lay = at-put .before .before .before .before .before in
+    let at-size-of = at-lay .before .before in
+    let at-decode = at-size-of .before .before .before .before in
+    let start = at-decode .before .before .before .before .before .before .before in
     let A = start .args in
-    c .before .before .put .ensures ∙ ap (λ (t : List ℕ). header (c .before .before .before .before .before .before .before .before .before .before .before .before .before .decode .result) ++ t) (c .before .before .before .before .before .before .before .lay .ensures)
-    ∙ recorded (A .n) (A .sheet .now) (A .r) (A .ceiling) (A .word .now) (A .found .now) _ _ (c .before .before .before .before .before .before .before .before .before .before .before .before .before .decode .ensures) (start .pre .1) _ (c .before .before .before .before .before .before .before .before .before .size-of .ensures)
+    at-put .put .ensures ∙ ap (λ (t : List ℕ). header (at-decode .decode .result) ++ t) (at-lay .lay .ensures)
+    ∙ recorded (A .n) (A .sheet .now) (A .r) (A .ceiling) (A .word .now) (A .found .now) _ _ (at-decode .decode .ensures) (start .pre .1) _ (at-size-of .size-of .ensures)
 
 pub answer-in-spec : {M : Type 1} → statement M
 answer-in-spec =

@@ -36,7 +36,10 @@ part-copy-end c = search needs
 
 copy-requires-2 : tie.Need-copy-requires-2
 unfolding answerBytes stripWidth
-copy-requires-2 c κs = put-room (c .before .before .before .before .before .before .before .before .before .args .strips .now) (c .before .before .before .copy .last .1 .0) 8 (omega (arith, c .before .before .before .before .before .before .before .before .before .pre .1, c .before .before .before .before .before .before .before .before .before .pre .2))
+copy-requires-2 c κs =
+    let at-copy = c .before .before .before in
+    let start = at-copy .before .before .before .before .before .before in
+    put-room (start .args .strips .now) (at-copy .copy .last .1 .0) 8 (omega (arith, start .pre .1, start .pre .2))
 
 same-length : tie.Need-same-length
 same-length c = search needs
@@ -44,10 +47,12 @@ same-length c = search needs
 returns : tie.Need-returns
 unfolding answerBytes stripWidth
 returns c =
-    let start = c .before .before .before .before .before .before .before .before .before .before .before .before in
-    let copy = c .before .before .before .before .before .before in
-    put-whole (c .before .before .before .before .before .before .before .before .before .head .result) (start .args .strips .now) (start .args .out .now) _ 8 (header-eight (c .before .before .before .before .before .before .before .before .before)) (omega (arith, start .pre .1, start .pre .2)) _ (copy .copy .ensures .1) (c .before .before .copy2 .ensures .1)
-    ∙ ap (λ (t : List ℕ). t ++ start .args .strips .now) (c .before .before .before .before .before .before .before .before .before .head .ensures)
+    let at-copy2 = c .before .before in
+    let at-copy = at-copy2 .before .before .before .before in
+    let at-head = at-copy .before .before .before in
+    let start = at-head .before .before .before in
+    put-whole (at-head .head .result) (start .args .strips .now) (start .args .out .now) _ 8 (header-eight (at-head)) (omega (arith, start .pre .1, start .pre .2)) _ (at-copy .copy .ensures .1) (at-copy2 .copy2 .ensures .1)
+    ∙ ap (λ (t : List ℕ). t ++ start .args .strips .now) (at-head .head .ensures)
 
 pub put-spec : {M : Type 1} → statement M
 put-spec =

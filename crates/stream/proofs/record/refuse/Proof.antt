@@ -15,14 +15,21 @@ slice-aggregate-put : tie.Need-slice-aggregate-put
 slice-aggregate-put c = search needs
 
 put-requires : tie.Need-put-requires
-put-requires c κs = (c .before .before .before .before .pre .0, ap length (c .before .before .blank .ensures) ∙ length-replicate (3 * stripWidth) 255, c .before .before .before .before .pre .1)
+put-requires c κs =
+    let at-blank = c .before .before in
+    let start = at-blank .before .before in
+    (start .pre .0, ap length (at-blank .blank .ensures) ∙ length-replicate (3 * stripWidth) 255, start .pre .1)
 
 same-length : tie.Need-same-length
 same-length c = search needs
 
 returns : tie.Need-returns
 unfolding refusedRecord
-returns c = c .before .before .put .ensures ∙ ap (λ (t : List ℕ). header (c .before .before .before .before .before .before .before .args .a) ++ t) (c .before .before .before .before .before .blank .ensures)
+returns c =
+    let at-put = c .before .before in
+    let at-blank = at-put .before .before .before in
+    let start = at-blank .before .before in
+    at-put .put .ensures ∙ ap (λ (t : List ℕ). header (start .args .a) ++ t) (at-blank .blank .ensures)
 
 pub refuse-spec : {M : Type 1} → statement M
 refuse-spec =
