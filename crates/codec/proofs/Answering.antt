@@ -26,7 +26,7 @@ use Rattle.meaning.proofs.Polar.{length-polar}
 use Rattle.meaning.proofs.Sound.{length-rules}
 use Rattle.meaning.proofs.Encode.{length-free}
 use Rattle.meaning.proofs.ReadBack.{encode-is, read-is}
-use Rattle.codec.specs.Division.{AreBits}
+use Rattle.codec.specs.Ready.{AreBits}
 use Rattle.codec.specs.Faults.{encodeFault, readFault}
 use Rattle.codec.specs.Ready.{Ready, Whole, Legible, Extracted}
 use Rattle.form.proofs.Records.{records-in}

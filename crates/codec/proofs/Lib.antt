@@ -1,7 +1,5 @@
--- Transforming: the transform in place. Division: the check's division on words. Packing: values packed into words.
+-- Packing: values packed into words.
 -- Placing: the vector that the rules give, and its free bits. Sending: from a payload to its codeword. Reading: from a word to its payload. Answering: the answers of encode and read-back.
-pub mod Transforming
-pub mod Division
 pub mod Packing
 pub mod Placing
 pub mod Sending

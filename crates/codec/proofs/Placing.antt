@@ -4,7 +4,7 @@
 --     Taking           what is known when the free bits of i positions are taken
 --     free-taken, frozen-passed, taken    one position more; all of them
 use mathlib.Core.Path.{_≡_, refl, sym, ap, ap₂, _∙_}
-use Prim.Native.Nat.{ℕ, suc, _+_, _*_, _/_, _%_, _^_, _<_, _≤_}
+use Prim.Native.Nat.{ℕ, zero, suc, _+_, _*_, _/_, _%_, _^_, _<_, _≤_}
 use native.Mathlib.Omega.{arith}
 use native.Mathlib.Numerals.{add-one}
 use mathlib.Core.Bool.{Bool, true, false}
@@ -21,10 +21,20 @@ use Rattle.meaning.specs.Sheet.{byte, mask, Rule, free, frozen, ruleAt, frees}
 use Rattle.meaning.specs.Check.{freeBits}
 use Rattle.meaning.specs.Payload.{place}
 use Rattle.meaning.specs.Answers.{isOne}
-use Rattle.codec.specs.Division.{AreBits}
+use Rattle.division.proofs.Division.{bit-small}
 use Rattle.codec.specs.Packed.{held, Holds}
-use Rattle.codec.proofs.Division.{is-bit, bit-small, getD-map}
+use Rattle.codec.specs.Ready.{AreBits}
 use Rattle.codec.proofs.Packing.{holds-none, holds-more, odd-held}
+
+-- ---- bytes that are bits
+
+getD-map : {A B : Type 0} (f : A → B) (l : List A) (i : ℕ) (a : A) → getD (map f l) i (f a) ≡ f (getD l i a)
+getD-map f [] i a = refl
+getD-map f (x ∷ l) zero a = refl
+getD-map f (x ∷ l) (suc i) a = getD-map f l i a
+
+is-bit : (l : List ℕ) (i : ℕ) → AreBits l → i < length l → getD l i 0 ≡ bit (isOne (getD l i 0))
+is-bit l i a h = ap (λ (m : List ℕ). getD m i 0) (sym a) ∙ getD-map bit (map isOne l) i false ∙ ap bit (getD-map isOne l i 0)
 
 -- ---- the rule of a position
 

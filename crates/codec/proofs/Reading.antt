@@ -4,13 +4,12 @@
 --     broken, held        whether it keeps the rules: it is the vector that they give for its own free bits
 --     lent, compared      the comparison with the vector that the rules give
 use mathlib.Core.Path.{_≡_, refl, sym, ap, ap₂, _∙_, subst}
-use Prim.Native.Nat.{ℕ, _-_, _*_, _^_, _≤_}
+use Prim.Native.Nat.{ℕ, zero, suc, _-_, _*_, _^_, _≤_}
 use native.Mathlib.Omega.{arith}
 use mathlib.Core.Bool.{Bool, true, false, _&&_, true≢false}
-use mathlib.Core.List.{List, [], _++_, map, append-nil}
+use mathlib.Core.List.{List, [], _∷_, _++_, map, append-nil}
 use lib.ListN.{length, take, drop, length-append, length-map, length-take, drop-of-length-le}
 use lib.Seq.{take-all, take-append-seam}
-use lib.Dec.{eqb}
 use Rattle.bits.specs.Vectors.{bit, tab}
 use Rattle.bits.proofs.Tests.{length-tab}
 use Rattle.meaning.specs.Limits.{recordBytes, maskBytes, leads}
@@ -22,19 +21,25 @@ use Rattle.meaning.specs.Answers.{isOne}
 use Rattle.meaning.proofs.Polar.{length-polar}
 use Rattle.meaning.proofs.Encode.{length-free, keeps-place, place-unique}
 use Rattle.meaning.proofs.ReadBack.{ones-back}
-use Rattle.codec.specs.Bytes.{polarBytes}
-use Rattle.codec.specs.Division.{AreBits, Fed}
-use Rattle.codec.specs.Ready.{Whole, Extracted, Tells}
-use Rattle.codec.proofs.Transforming.{polar-bytes}
-use Rattle.codec.proofs.Division.{fed-zero, take-map}
+use Rattle.polar.specs.Bytes.{transformed}
+use Rattle.polar.proofs.Transforming.{transformed-is, polar-bytes}
+use Rattle.division.specs.Division.{dividing}
+use Rattle.division.proofs.Checking.{known-listed, dividing-is}
+use Rattle.codec.specs.Ready.{AreBits, Whole, Extracted, Tells}
 use Rattle.codec.proofs.Sending.{bits-are}
+
+take-map : {A B : Type 0} (f : A → B) (i : ℕ) (l : List A) → take i (map f l) ≡ map f (take i l)
+take-map f zero l = refl
+take-map f (suc i) [] = refl
+take-map {B = B} f (suc i) (x ∷ l) = ap {B = List B} (λ t. f x ∷ t) (take-map f i l)
 
 -- ---- the vector behind a word
 
-pub unsent : (n : ℕ) (w u l z : List ℕ) → AreBits w → length w ≡ 2 ^ n → length u ≡ 2 ^ n → l ≡ take (length w) w ++ drop (length w) u → z ≡ polarBytes n l → z ≡ map bit (polar n (map isOne w))
+pub unsent : (n : ℕ) (w u l z : List ℕ) → AreBits w → length w ≡ 2 ^ n → length u ≡ 2 ^ n → l ≡ take (length w) w ++ drop (length w) u → z ≡ transformed n l → z ≡ map bit (polar n (map isOne w))
 unsent n w u l z a lw lu el ez =
     let e : l ≡ w = el ∙ ap₂ {C = List ℕ} _++_ (take-all (length w) w (omega arith)) (drop-of-length-le u {i = length w} (omega arith)) ∙ append-nil w in
-    ez ∙ ap (polarBytes n) (e ∙ sym a) ∙ polar-bytes n (map isOne w) (length-map w isOne ∙ lw)
+    let lo : length (map isOne w) ≡ 2 ^ n = length-map w isOne ∙ lw in
+    ez ∙ ap (transformed n) (e ∙ sym a) ∙ transformed-is n (map bit (map isOne w)) (length-map (map isOne w) bit ∙ lo) ∙ polar-bytes n (map isOne w) lo
 
 -- u, the vector behind a word, as bytes
 module _ (n : ℕ) (s : List ℕ) (w u : List ℕ) (lw : length w ≡ 2 ^ n) (e : u ≡ map bit (polar n (map isOne w))) where
@@ -103,12 +108,12 @@ module _ (s : List ℕ) (r : ℕ) (u : List ℕ) (k : ℕ) (ok : Whole s r u k) 
           go false q = refl
 
       -- the same vector: every rule is kept, and the check decides
-      pub held : b ≡ true → (w : ℕ) → Fed r (map isOne f) w → eqb w 0 ≡ keeps ks r us
+      pub held : b ≡ true → (d : Bool) → d ≡ dividing r f → d ≡ keeps ks r us
       unfolding keeps
-      held e w d =
+      held e d ed =
           let same : us ≡ place ks [] (freeBits ks us) = ap (map isOne) (tell .yes e ∙ again) ∙ ones-back (place ks [] (freeBits ks us)) in
           let kept : keepsRules ks us us ≡ true = subst (λ (x : List Bool). keepsRules ks x x ≡ true) (sym same) (keeps-place ks [] (freeBits ks us) (ok .ordered)) in
-          rw kept (sym (fed-zero r (freeBits ks us) w (subst (λ (x : List Bool). Fed r x w) frees-back d)))
+          rw kept (ed ∙ dividing-is r f (known-listed r (ok .check)) ∙ ap (λ (x : List Bool). divides r (leads r ++ x)) frees-back)
 
 -- ---- the comparison, with a part l of the room as long as u
 

@@ -1,15 +1,14 @@
 -- From a payload to its codeword, in the values that the code has.
---     tail-length, checked     the payload with its check bits behind it
---     placed-bytes, sent       the vector that the rules give, and its transform
-use mathlib.Core.Path.{_≡_, refl, sym, ap, ap₂, _∙_, subst}
-use Prim.Native.Nat.{ℕ, _+_, _-_, _*_, _^_, _≤_}
+--     checked           the payload with its check bits behind it
+--     place-ready       the vector that the rules give
+--     sent              its transform
+use mathlib.Core.Path.{_≡_, sym, ap, ap₂, _∙_, subst}
+use Prim.Native.Nat.{ℕ, _*_, _^_, _≤_}
 use native.Mathlib.Omega.{arith}
-use mathlib.Core.Bool.{Bool, false}
+use mathlib.Core.Bool.{Bool}
 use mathlib.Core.List.{List, [], _++_, map, map-append}
-use lib.ListN.{length, take, drop, replicate, length-drop}
-use lib.Seq.{take-all}
+use lib.ListN.{length, length-map}
 use lib.Pow.{pow-mono}
-use borrow.Rule.Slice.PartMut.{putMid}
 use Rattle.bits.specs.Vectors.{bit, tab}
 use Rattle.meaning.specs.Limits.{largestN, maskBytes, recordBytes, leads}
 use Rattle.meaning.specs.Transform.{polar}
@@ -20,29 +19,11 @@ use Rattle.meaning.specs.Answers.{isOne}
 use Rattle.meaning.proofs.Sound.{length-rules}
 use Rattle.meaning.proofs.Encode.{length-place}
 use Rattle.meaning.proofs.ReadBack.{ones-back}
-use Rattle.codec.specs.Bytes.{polarBytes}
-use Rattle.codec.specs.Ready.{Ready}
-use Rattle.codec.specs.Division.{toBits, AreBits, Fed}
-use Rattle.codec.proofs.Transforming.{rest, whole, polar-bytes}
-use Rattle.codec.proofs.Division.{remainder-is}
-
--- ---- the payload, copied, and the part of the buffer behind it
-
-module _ (p free l : List ℕ) (r : ℕ) (e : l ≡ take (length p) p ++ drop (length p) free) (s : length free ≡ length p + r) where
-  copied : l ≡ p ++ drop (length p) free
-  copied = e ∙ ap (λ (t : List ℕ). t ++ drop (length p) free) (take-all (length p) p (omega arith))
-
-  pub tail-length : length (take (length l - length p) (drop (length p) l)) ≡ r
-  tail-length =
-      ap (λ (t : List ℕ). length (take (length t - length p) (drop (length p) t))) copied
-      ∙ ap length (rest free p (length p) refl (omega arith)) ∙ simp length-drop (omega arith)
-
-  pub checked : (b : List ℕ) (w : ℕ) → AreBits p → b ≡ map bit (toBits (length (take (length l - length p) (drop (length p) l))) w) → Fed r (map isOne p ++ replicate r false) w
-      → putMid (length p) (length l - length p) l b ≡ map bit (map isOne p ++ remainder (poly r) (leads r ++ map isOne p))
-  checked b w a eb f =
-      let c : b ≡ map bit (remainder (poly r) (leads r ++ map isOne p)) = eb ∙ ap (λ (k : ℕ). map bit (toBits k w)) tail-length ∙ ap (map bit) (remainder-is r (map isOne p) w f) in
-      ap (λ (t : List ℕ). putMid (length p) (length t - length p) t b) copied ∙ whole free p (length p) refl (omega arith) b
-      ∙ ap₂ {C = List ℕ} _++_ (sym a) c ∙ sym (map-append bit (map isOne p) (remainder (poly r) (leads r ++ map isOne p)))
+use Rattle.polar.specs.Bytes.{transformed}
+use Rattle.polar.proofs.Transforming.{transformed-is, polar-bytes}
+use Rattle.division.specs.Division.{appending}
+use Rattle.division.proofs.Checking.{fitting-is, appending-is}
+use Rattle.codec.specs.Ready.{AreBits, Ready}
 
 -- ---- the vector that the rules give, and its transform
 
@@ -55,6 +36,11 @@ module _ (n : ℕ) (s : List ℕ) (r : ℕ) (p : List ℕ) (k : ℕ) (ok : Ready
   unfolding largestN maskBytes
   within m e = omega (arith, e, pow-mono (ok .small))
 
+  pub checked : (f₀ f : List ℕ) → length f₀ ≡ k → f ≡ appending r p f₀ → f ≡ map bit (map isOne p ++ remainder (poly r) (leads r ++ map isOne p))
+  checked f₀ f l e =
+      let c : List Bool = remainder (poly r) (leads r ++ map isOne p) in
+      e ∙ appending-is r p f₀ (fitting-is (length p) r (length f₀) (ok .check) (l ∙ ok .sum)) ∙ ap (λ (q : List ℕ). q ++ map bit c) (sym (ok .bits)) ∙ sym (map-append bit (map isOne p) c)
+
   module _ (x f : List ℕ) (lx : length x ≡ 2 ^ n) (lf : length f ≡ k) (e : f ≡ map bit (map isOne p ++ remainder (poly r) (leads r ++ map isOne p))) where
     pub place-ready : ((length s ≡ length x * recordBytes) × (length x ≤ 8 * maskBytes)) × (AreBits f × (length f ≡ frees (tab (length x) (ruleAt s))))
     unfolding rules
@@ -66,11 +52,12 @@ module _ (n : ℕ) (s : List ℕ) (r : ℕ) (p : List ℕ) (k : ℕ) (ok : Ready
       ),
     )
 
-    pub sent : (y z : List ℕ) → y ≡ map bit (place (tab (length x) (ruleAt s)) [] (map isOne f)) → z ≡ polarBytes n y → z ≡ map bit (polar n (encoded (rules n s) r (map isOne p)))
+    pub sent : (y z : List ℕ) → y ≡ map bit (place (tab (length x) (ruleAt s)) [] (map isOne f)) → z ≡ transformed n y → z ≡ map bit (polar n (encoded (rules n s) r (map isOne p)))
     unfolding encoded rules
     sent y z ey ez =
         let b : List Bool = map isOne p ++ remainder (poly r) (leads r ++ map isOne p) in
         let u : List Bool = place (rules n s) [] b in
         let back : map isOne f ≡ b = ap (map isOne) e ∙ ones-back b in
         let eu : y ≡ map bit u = ey ∙ ap₂ (λ (m : ℕ) (v : List Bool). map bit (place (tab m (ruleAt s)) [] v)) lx back in
-        ez ∙ ap (polarBytes n) eu ∙ polar-bytes n u (length-place (rules n s) [] b ∙ length-rules n s)
+        let lu : length u ≡ 2 ^ n = length-place (rules n s) [] b ∙ length-rules n s in
+        ez ∙ ap (transformed n) eu ∙ transformed-is n (map bit u) (length-map u bit ∙ lu) ∙ polar-bytes n u lu

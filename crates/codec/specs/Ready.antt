@@ -1,4 +1,5 @@
 -- What is known once nothing is refused.
+--     AreBits    the bytes are 0 or 1
 --     Ready      a good sheet with K free positions, and a payload of K - r bits
 --     Legible    a good sheet for a word with nothing erased
 --     Extracted  what is left in the output: the payload of a codeword, or nothing new
@@ -16,7 +17,9 @@ use Rattle.meaning.specs.Sheet.{ruleAt, rules, frees, early}
 use Rattle.meaning.specs.Transform.{polar}
 use Rattle.meaning.specs.Check.{freeBits, keeps}
 use Rattle.meaning.specs.Answers.{isOne}
-use Rattle.codec.specs.Division.{AreBits}
+
+abbrev pub AreBits : List ℕ → Type 0
+AreBits l = map bit (map isOne l) ≡ l
 
 pub record Ready (n : ℕ) (s : List ℕ) (r : ℕ) (p : List ℕ) (k : ℕ) : Type 0 where
   pub small : n ≤ largestN

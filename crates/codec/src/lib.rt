@@ -1,49 +1,33 @@
 // Encoding and read-back. Every function here is total: what is faulty is refused with its number,
 // in 01's order, and a refusal leaves the output as found.
 ghost use mathlib.Core.Path.{_≡_};
-ghost use mathlib.Core.Logic.{_⊎_};
-ghost use mathlib.Core.List.{map, _++_};
-ghost use Prim.Native.Nat.{_+_, _^_, _≤_};
+ghost use mathlib.Core.List.{map};
+ghost use Prim.Native.Nat.{_^_, _≤_};
 ghost use lib.ListN.{length};
 ghost use Rattle.bits.specs.Vectors.{bit, pick, tab};
-ghost use Rattle.meaning.specs.Limits.{largestN, leads};
+ghost use Rattle.meaning.specs.Limits.{largestN};
 ghost use Rattle.meaning.specs.Transform.{polar};
 ghost use Rattle.meaning.specs.Sheet.{ruleAt, rules};
-ghost use Rattle.meaning.specs.Check.{poly, freeBits, keeps};
-ghost use Rattle.meaning.specs.Payload.{remainder, encoded};
-ghost use Rattle.codec.specs.Division.{AreBits};
+ghost use Rattle.meaning.specs.Check.{freeBits, keeps};
+ghost use Rattle.meaning.specs.Payload.{encoded};
 ghost use Rattle.codec.specs.Faults.{encodeFault, readFault};
-ghost use Rattle.codec.specs.Ready.{Ready, Whole, Legible, Extracted};
+ghost use Rattle.codec.specs.Ready.{AreBits, Ready, Whole, Legible, Extracted};
 ghost use Rattle.meaning.specs.declared.Answer.the-variants.{Done, Inconsistent};
 ghost use Rattle.meaning.specs.Answers.{encoding, readingBack, leaving, isOne};
 
-mod register;
 mod rules;
-mod transform;
 
 use meaning::Answer;
 use meaning::limits;
-
-// The K free bits of a payload: the payload, then its r check bits.
-fn with_check(payload: &[u8], r: usize, free: &mut [u8])
-    requires { ⌜ ((r ≡ 0) ⊎ ((r ≡ 6) ⊎ (r ≡ 11))) ⌝ }
-    requires { ⌜ AreBits (now payload) × (length (now free) ≡ length (now payload) + r) ⌝ }
-    ensures { λ _. ⌜ now (free .exit) ≡ map bit (map isOne (now (payload .entry)) ++ remainder (poly r) (leads r ++ map isOne (now (payload .entry)))) ⌝ }
-{
-    bytes::copy(payload, free);
-    let s = register::flush(register::feed(payload, r), r);
-    let k = payload.len();
-    register::spell(s, &mut free[k..]);
-}
 
 // Writes the codeword of a payload into a block of N symbols. The sheet and the payload are not refused, and `free` has K places.
 fn send(n: usize, sheet: &[u8], r: usize, payload: &[u8], free: &mut [u8], x: &mut [u8])
     requires { ⌜ Ready n (now sheet) r (now payload) (length (now free)) × (length (now x) ≡ 2 ^ n) ⌝ }
     ensures { λ _. ⌜ now (x .exit) ≡ map bit (polar n (encoded (rules n (now (sheet .entry))) r (map isOne (now (payload .entry))))) ⌝ }
 {
-    with_check(payload, r, free);
+    division::append(payload, r, free);
     rules::place_bits(sheet, free, x);
-    transform::transform(x, n);
+    polar::transform(x, n);
 }
 
 // The fault of form that an encoding is refused for: the sheet's, the payload's or the output's. Done where there is none.
@@ -97,7 +81,7 @@ fn unsend(n: usize, word: &[u8], u: &mut [u8])
     ensures { λ _. ⌜ now (u .exit) ≡ map bit (polar n (map isOne (now (word .entry)))) ⌝ }
 {
     bytes::copy(word, u);
-    transform::transform(u, n);
+    polar::transform(u, n);
 }
 
 // Whether u keeps every frozen rule and the check; takes its free bits out on the way.
@@ -109,7 +93,7 @@ fn lawful(sheet: &[u8], r: usize, u: &[u8], free: &mut [u8]) -> bool
     if !rules::ruled(sheet, free, u) {
         return false;
     }
-    register::feed(free, r) == 0
+    division::divides(free, r)
 }
 
 // Writes the first m free bits behind a word, if it is a codeword; answers whether it is. `u` has N places, `free` K.

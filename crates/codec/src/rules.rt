@@ -11,9 +11,8 @@ ghost use Rattle.meaning.specs.Sheet.{byte, mask, ruleAt, frees};
 ghost use Rattle.meaning.specs.Check.{freeBits};
 ghost use Rattle.meaning.specs.Payload.{place};
 ghost use Rattle.meaning.specs.Answers.{isOne};
-ghost use Rattle.codec.specs.Division.{AreBits};
 ghost use Rattle.codec.specs.Packed.{held};
-ghost use Rattle.codec.specs.Ready.{Tells};
+ghost use Rattle.codec.specs.Ready.{AreBits, Tells};
 use meaning::limits;
 
 // Byte k of record i.

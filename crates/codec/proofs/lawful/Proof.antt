@@ -1,6 +1,6 @@
 use borrow.Author.Tests.{not-true, not-false}
 use borrow.Author.Needs.{needs}
-use Rattle.codec.proofs.Reading.{free-bits, place-again, broken, held}
+use Rattle.codec.proofs.Reading.{place-again, broken, held}
 use Rattle.codec.proofs.lawful.Statement.{statement}
 use Rattle.codec.proofs.lawful.Tie as tie
 
@@ -18,11 +18,8 @@ returns c =
     let take = c .before .before .before .before .before in
     (broken _ _ _ _ (c .before .before .before .before .before .before .before .before .before .before .pre) (take .take-free .last .1 .1 .0) (take .take-free .ensures) _ (c .before .ruled .ensures) (not-true _ (c .if1 .taken)), take .take-free .ensures)
 
-feed-requires : tie.Need-feed-requires
-feed-requires c κs =
-    let take = c .before .before .before .before .before .before in
-    let start = c .before .before .before .before .before .before .before .before .before .before .before in
-    (start .pre .check, free-bits _ _ _ _ (start .pre) (take .take-free .last .1 .1 .0) (take .take-free .ensures))
+divides-requires : tie.Need-divides-requires
+divides-requires c κs = tt
 
 same-length-2 : tie.Need-same-length-2
 same-length-2 c = search needs
@@ -30,9 +27,9 @@ same-length-2 c = search needs
 returns-2 : tie.Need-returns-2
 returns-2 c =
     let take = c .before .before .before .before .before .before .before in
-    (held _ _ _ _ (c .before .before .before .before .before .before .before .before .before .before .before .before .pre) (take .take-free .last .1 .1 .0) (take .take-free .ensures) _ (c .before .before .before .ruled .ensures) (not-false _ (c .before .before .if1 .left)) _ (c .feed .ensures), take .take-free .ensures)
+    (held _ _ _ _ (c .before .before .before .before .before .before .before .before .before .before .before .before .pre) (take .take-free .last .1 .1 .0) (take .take-free .ensures) _ (c .before .before .before .ruled .ensures) (not-false _ (c .before .before .if1 .left)) _ (c .divides .ensures), take .take-free .ensures)
 
 pub lawful-spec : {M : Type 1} → statement M
 lawful-spec =
     tie.close
-    (tie.spec take-free-requires ruled-requires same-length returns feed-requires same-length-2 returns-2)
+    (tie.spec take-free-requires ruled-requires same-length returns divides-requires same-length-2 returns-2)

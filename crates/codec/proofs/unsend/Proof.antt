@@ -7,7 +7,7 @@ copy-requires : tie.Need-copy-requires
 copy-requires c κs = search needs
 
 transform-requires : tie.Need-transform-requires
-transform-requires c κs = search needs
+transform-requires c κs = tt
 
 same-length : tie.Need-same-length
 same-length c = search needs

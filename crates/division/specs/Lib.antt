@@ -1,0 +1,2 @@
+-- Division: the check's remainder as a word, and what `divides` and `append` promise.
+pub mod Division

@@ -1,0 +1,2 @@
+-- Transforming: the transform in place.
+pub mod Transforming

@@ -1,0 +1,2 @@
+-- Bytes: the transform over bytes.
+pub mod Bytes
