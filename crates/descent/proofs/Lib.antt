@@ -1,5 +1,4 @@
 pub mod Slots
-pub mod Rules
 pub mod Leaves
 pub mod Halves
 pub mod Asks

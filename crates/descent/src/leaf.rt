@@ -11,7 +11,6 @@ ghost use Rattle.model.specs.Model.{valueAt, nextAt, eqsAt};
 ghost use Rattle.descent.specs.Values.{rowValues};
 ghost use Rattle.descent.specs.Block.{walkOf, outOf, decoded};
 use super::record;
-use super::rule;
 use bits::rows;
 
 // How many unknowns were handed out and how many equations were found.
@@ -37,13 +36,13 @@ fn fill(
     ensures { λ r. ⌜ (now (vals .exit) ≡ valueAt (rowValues c w) (ruleAt (now (sheet .entry)) at) none (rows w at (now (us .entry))) (t .next)) × (r .next ≡ nextAt {A = Row} (ruleAt (now (sheet .entry)) at) none (t .next)) × (r .eqs ≡ t .eqs) ⌝ }
 {
     if record::byte_at(sheet, at, 0) == 0 {
-        rule::unknown_row(vals, t.next);
+        ruling::unknown_row(vals, t.next);
         Tally {
             next: t.next + 1,
             eqs: t.eqs,
         }
     } else {
-        rule::rule_row(vals, 0, us, sheet, at, c, w);
+        ruling::rule_row(vals, 0, us, sheet, at, c, w);
         t
     }
 }
@@ -68,7 +67,7 @@ fn hold(
         t
     } else {
         let e = t.eqs * w;
-        rule::rule_row(eqs, e, us, sheet, at, c, w);
+        ruling::rule_row(eqs, e, us, sheet, at, c, w);
         rows::add(eqs, e, vals, 0, w);
         Tally {
             next: t.next,

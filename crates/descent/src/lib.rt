@@ -6,7 +6,6 @@ mod block;
 mod leaf;
 mod limits;
 mod record;
-mod rule;
 mod word;
 
 // How a descent ended.

@@ -1,4 +1,5 @@
-use Prim.Native.Nat.{_*_}
+use mathlib.Core.Path.{_∙_}
+use Prim.Native.Nat.{_+_, _*_, _≤_}
 use native.Mathlib.Omega.{arith}
 use lib.ListN.{length}
 use lib.Dec.{eqb}
@@ -7,7 +8,8 @@ use Rattle.meaning.specs.Limits.{maskBytes, recordBytes}
 use Rattle.meaning.specs.Sheet.{byte, mask, ruleAt}
 use Rattle.descent.proofs.Leaves.{fill-free, fill-frozen, next-free}
 use Rattle.counting.proofs.Counting.{rule-free, rule-frozen}
-use Rattle.descent.proofs.Rules.{rule-wide}
+use Rattle.ruling.proofs.Rules.{rule-wide}
+use Rattle.ruling.proofs.Room.{has-room, ruled-is}
 use Rattle.descent.proofs.leaf.fill.Statement.{statement}
 use Rattle.descent.proofs.leaf.fill.Tie as tie
 
@@ -16,9 +18,7 @@ unfolding recordBytes maskBytes
 byte-at-requires c κs = omega arith
 
 unknown-row-requires : tie.Need-unknown-row-requires
-unknown-row-requires c κs =
-    let A = c .before .before .before .before .before .before .args in
-    omega (arith, next-free (ruleAt (A .sheet .now) (A .at)) (A .t .next) (64 * A .c) (rule-free (A .sheet .now) (A .at) _ (c .before .before .byte-at .ensures) (c .before .if1 .taken)) (c .before .before .before .before .before .before .pre .1 .1 .0))
+unknown-row-requires c κs = tt
 
 add-t14 : tie.Need-add-t14
 add-t14 c =
@@ -26,9 +26,7 @@ add-t14 c =
     omega (arith, next-free (ruleAt (A .sheet .now) (A .at)) (A .t .next) (64 * A .c) (rule-free (A .sheet .now) (A .at) _ (c .before .before .before .before .before .before .byte-at .ensures) (c .before .before .before .before .before .if1 .taken)) (c .before .before .before .before .before .before .before .before .before .before .pre .1 .1 .0))
 
 rule-row-requires : tie.Need-rule-row-requires
-rule-row-requires c κs =
-    let P = c .before .before .before .before .before .before .pre in
-    ((omega arith, P .0 .1, P .0 .2), P .1 .0)
+rule-row-requires c κs = tt
 
 same-length : tie.Need-same-length
 same-length c = c .before .before .before .unknown-row .kept .0
@@ -48,10 +46,12 @@ returns-2 c =
     let A = c .before .before .before .before .before .before .before .before .before .args in
     let P = c .before .before .before .before .before .before .before .before .before .pre in
     let C = c .before .before .rule-row in
+    let l : 0 + A .w ≤ length (A .vals .now) = omega (arith, P .0 .0) in
     let s = A .sheet .now in
     let b = eqb (byte s (A .at) 1) 1 in
     fill-frozen (A .c) (A .w) (A .t .next) (A .t .eqs) (A .vals .now) (C .last .0) (rows (A .w) (A .at) (A .us .now)) (ruleAt s (A .at)) b (mask s (A .at))
-    (rule-frozen s (A .at) _ (c .before .before .before .before .before .byte-at .ensures) (c .before .before .before .before .if1 .left)) (P .0 .0) (rule-wide (A .c) (A .w) (A .us .now) (A .at) (P .0 .1) s b) (C .ensures)
+    (rule-frozen s (A .at) _ (c .before .before .before .before .before .byte-at .ensures) (c .before .before .before .before .if1 .left)) (P .0 .0) (rule-wide (A .c) (A .w) (A .us .now) (A .at) (P .0 .1) s b)
+    (C .ensures ∙ ruled-is (A .vals .now) 0 (A .us .now) s (A .at) (A .c) (A .w) (has-room _ _ _ _ _ _ _ (l, P .0 .1, P .0 .2) (P .1 .0)))
 
 pub fill-spec : {M : Type 1} → statement M
 fill-spec =

@@ -1,4 +1,5 @@
 use mathlib.Core.Path.{_∙_}
+use Prim.Native.Nat.{_*_}
 use native.Mathlib.Omega.{arith}
 use lib.ListN.{length}
 use lib.Dec.{eqb}
@@ -7,7 +8,8 @@ use Rattle.meaning.specs.Limits.{maskBytes, recordBytes}
 use Rattle.meaning.specs.Sheet.{byte, mask, ruleAt}
 use Rattle.descent.proofs.Leaves.{hold-free, hold-room, few, hold-frozen}
 use Rattle.counting.proofs.Counting.{rule-free, rule-frozen}
-use Rattle.descent.proofs.Rules.{rule-wide}
+use Rattle.ruling.proofs.Rules.{rule-wide}
+use Rattle.ruling.proofs.Room.{has-room, ruled-is}
 use Rattle.descent.proofs.Running.{room}
 use Rattle.descent.proofs.leaf.hold.Statement.{statement}
 use Rattle.descent.proofs.leaf.hold.Tie as tie
@@ -27,15 +29,7 @@ mul-e c =
     omega arith
 
 rule-row-requires : tie.Need-rule-row-requires
-rule-row-requires c κs =
-    let A = c .before .before .before .before .before .before .before .before .args in
-    let s = A .sheet .now in
-    let rs = rows (A .w) (A .at) (A .us .now) in
-    let b = eqb (byte s (A .at) 1) 1 in
-    let f = rule-frozen s (A .at) _ (c .before .before .before .byte-at .ensures) (c .before .before .if1 .left) in
-    let room = hold-room (A .c) (A .w) (A .t .eqs) (A .eqs .now) (A .vals .now) rs (ruleAt s (A .at)) b (mask s (A .at)) f (c .before .before .before .before .before .before .before .before .pre .1 .1) in
-    let P = c .before .before .before .before .before .before .before .before .pre in
-    ((omega arith, P .0 .1, P .0 .2), P .1 .0)
+rule-row-requires c κs = tt
 
 add-requires : tie.Need-add-requires
 add-requires c κs = tt
@@ -72,7 +66,8 @@ returns-2 c =
     let C = c .before .before .before .before .before .before .before .rule-row in
     let D = c .before .before .before .add in
     hold-frozen (A .c) (A .w) (A .t .eqs) (A .t .next) (A .eqs .now) (C .last .0) (D .last .0) (A .vals .now) rs (ruleAt s (A .at)) b (mask s (A .at)) f (P .0 .0)
-    (rule-wide (A .c) (A .w) (A .us .now) (A .at) (P .0 .1) s b) room (C .ensures) (D .ensures)
+    (rule-wide (A .c) (A .w) (A .us .now) (A .at) (P .0 .1) s b) room
+    (C .ensures ∙ ruled-is (A .eqs .now) (A .t .eqs * A .w) (A .us .now) s (A .at) (A .c) (A .w) (has-room _ _ _ _ _ _ _ (room, P .0 .1, P .0 .2) (P .1 .0))) (D .ensures)
 
 pub hold-spec : {M : Type 1} → statement M
 hold-spec =

@@ -3,9 +3,9 @@ use Prim.Native.Nat.{_-_, _≤_}
 use native.Mathlib.Omega.{arith}
 use Rattle.bits.proofs.RowLaws.{row-fit}
 use Rattle.meaning.specs.Limits.{maskBytes, recordBytes}
-use Rattle.descent.proofs.Rules.{Sum, sum-start, sum-all, sum-hit, sum-miss}
-use Rattle.descent.proofs.rule.named_row.Statement.{statement}
-use Rattle.descent.proofs.rule.named_row.Tie as tie
+use Rattle.ruling.proofs.Rules.{Sum, sum-start, sum-all, sum-hit, sum-miss}
+use Rattle.ruling.proofs.named_row.Statement.{statement}
+use Rattle.ruling.proofs.named_row.Tie as tie
 
 abbrev Inv-loop : tie.InvT-loop
 Inv-loop d₀ to us sheet at w j₀ d j = (j ≤ at) × Sum w to at j us sheet d₀ d

@@ -6,8 +6,8 @@ use borrow.Author.Needs.{needs}
 use Rattle.bits.specs.Words.{bitAt}
 use Rattle.meaning.specs.Limits.{maskBytes, recordBytes}
 use Rattle.meaning.specs.Sheet.{names}
-use Rattle.descent.proofs.record.has_name.Statement.{statement}
-use Rattle.descent.proofs.record.has_name.Tie as tie
+use Rattle.ruling.proofs.record.has_name.Statement.{statement}
+use Rattle.ruling.proofs.record.has_name.Tie as tie
 
 add-byte-at : tie.Need-add-byte-at
 add-byte-at c = search needs

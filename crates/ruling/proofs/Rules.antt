@@ -1,7 +1,7 @@
 -- The row of a rule, from the last position that a record can name down to the first, and the row of an unknown.
 --     Sum, sum-start, sum-hit, sum-miss, sum-all     the loop over the named positions
 --     rule-one, rule-zero, rule-wide                 the constant added
---     unknown-made                                   the row of an unknown
+--     unknown-made, unknown-none                     the row of an unknown
 use mathlib.Core.Path.{_≡_, refl, sym, ap, ap₂, _∙_}
 use Prim.Native.Nat.{ℕ, zero, suc, _+_, _-_, _*_, _/_, _%_, _^_, _≤_, _<_}
 use native.Mathlib.Omega.{arith}
@@ -9,7 +9,7 @@ use native.Mathlib.Nat.{mod-lt, mod-eq-of-lt, pow-le-pow-right}
 use mathlib.Core.Bool.{Bool, true, false}
 use mathlib.Core.List.{List, [], _∷_}
 use lib.ListN.{length, drop, set, getD, replicate, length-replicate, length-set}
-use lib.Seq.{paste}
+use lib.Seq.{paste, set-out}
 use lib.Bits.{bitXor}
 use lib.Dec.{eqb}
 use borrow.Author.Tests.{eq-eqb, ne-eqb}
@@ -19,7 +19,7 @@ use Rattle.bits.proofs.RowLaws.{length-⊻, ⊻-comm, nought-⊻, one-⊻, leng
 use Rattle.meaning.specs.Limits.{maskBytes}
 use Rattle.meaning.specs.Sheet.{byte, names, mask}
 use Rattle.model.specs.Model.{gate, named, ruleValue}
-use Rattle.descent.specs.Values.{unitRow, unknownRow, rowValues}
+use Rattle.ruling.specs.Values.{unitRow, unknownRow, rowValues}
 
 -- ---- tables
 
@@ -166,7 +166,13 @@ shifted k =
     let h : 2 ^ (k % 64) < 18446744073709551616 = omega arith in
     rw e (mod-eq-of-lt h)
 
-pub unknown-made : (d d₁ : List ℕ) (k : ℕ) → d₁ ≡ zeroed d 0 (length d) → set d₁ (k / 64) (1 * 2 ^ (k % 64) % 18446744073709551616) ≡ unknownRow (length d) k
-unknown-made d d₁ k e =
-    ap₂ (λ (l : List ℕ) (z : ℕ). set l (k / 64) z)
-    (e ∙ zeroed-fits d 0 (length d) (omega arith) ∙ paste-all d (replicate (length d) 0) (length d) refl (length-replicate (length d) 0)) (shifted k)
+module _ (d d₁ : List ℕ) (k : ℕ) (e : d₁ ≡ zeroed d 0 (length d)) where
+  blank : d₁ ≡ replicate (length d) 0
+  blank = e ∙ zeroed-fits d 0 (length d) (omega arith) ∙ paste-all d (replicate (length d) 0) (length d) refl (length-replicate (length d) 0)
+
+  pub unknown-made : set d₁ (k / 64) (1 * 2 ^ (k % 64) % 18446744073709551616) ≡ unknownRow (length d) k
+  unknown-made = ap₂ (λ (l : List ℕ) (z : ℕ). set l (k / 64) z) blank (shifted k)
+
+  -- no word for it
+  pub unknown-none : length d ≤ k / 64 → d₁ ≡ unknownRow (length d) k
+  unknown-none h = blank ∙ sym (set-out (replicate (length d) 0) (k / 64) (2 ^ (k % 64)) (rw (length-replicate {A = ℕ} (length d) 0) h))

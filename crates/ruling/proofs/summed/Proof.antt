@@ -1,9 +1,9 @@
 use native.Mathlib.Omega.{arith}
 use lib.ListN.{length-set}
 use Rattle.meaning.specs.Limits.{maskBytes, recordBytes}
-use Rattle.descent.proofs.Rules.{rule-one, rule-zero}
-use Rattle.descent.proofs.rule.rule_row.Statement.{statement}
-use Rattle.descent.proofs.rule.rule_row.Tie as tie
+use Rattle.ruling.proofs.Rules.{rule-one, rule-zero}
+use Rattle.ruling.proofs.summed.Statement.{statement}
+use Rattle.ruling.proofs.summed.Tie as tie
 
 named-row-requires : tie.Need-named-row-requires
 named-row-requires c κs = (((c .before .before .before .before .pre .0 .0), (c .before .before .before .before .pre .0 .1)), c .before .before .before .before .pre .1)
@@ -50,8 +50,8 @@ returns-2 c =
     let C = c .before .before .before .before .named-row in
     rule-zero (A .c) (A .w) _ _ (P .0 .1) _ (P .0 .2) (A .to) _ _ (P .0 .0) (C .ensures (A .c)) _ (c .before .byte-at .ensures) (c .if1 .left)
 
-pub rule-row-spec : {M : Type 1} → statement M
-rule-row-spec =
+pub summed-spec : {M : Type 1} → statement M
+summed-spec =
     tie.close
     (tie.spec
     named-row-requires
