@@ -56,6 +56,8 @@ pub fn descend(
     if most < g {
         return Descent::Over { g };
     }
-    let m = word::run(n, sheet, word, c, w, vals, us, eqs);
+    let mut marks: [u8; meaning::limits::POSITIONS] = [0; meaning::limits::POSITIONS];
+    let size = word.len();
+    let m = word::run(n, sheet, word, c, w, vals, &mut marks[..size], us, eqs);
     Descent::Done { g, m }
 }

@@ -41,41 +41,9 @@ fn prepare(word: &[u8], vals: &mut [u64], marks: &mut [u8], c: usize, w: usize)
     }
 }
 
-// Decodes a word: rows of its symbols, of u, and of the equations.
-fn decode_word(
-    sheet: &[u8],
-    word: &[u8],
-    vals: &mut [u64],
-    marks: &mut [u8],
-    us: &mut [u64],
-    eqs: &mut [u64],
-    c: usize,
-    w: usize,
-    n: usize,
-) -> Tally
-    requires { ⌜ (length (now word) ≡ 2 ^ n) × (length (now marks) ≡ length (now word)) × (length (now vals) ≡ length (now marks) * w) × (length (now word) * w ≤ length (now us)) × (c < w) ⌝ }
-    requires { ⌜ (length (now word) ≤ 8 * maskBytes) × (length (now word) * recordBytes ≤ length (now sheet)) × (64 * c < 2 ^ 63) ⌝ }
-    requires { ⌜ (run (rowValues c w) (ruleAt (now sheet)) n (now word)) .after .next ≤ 64 * c ⌝ }
-    requires { ⌜ length ((run (rowValues c w) (ruleAt (now sheet)) n (now word)) .after .eqs) * w ≤ length (now eqs) ⌝ }
-    ensures { λ r. ⌜ outOf w (length (now (word .entry))) (now (vals .exit)) (walkOf w (length (now (word .entry))) (now (us .exit)) (r .next) (r .eqs) (now (eqs .exit))) ≡ run (rowValues c w) (ruleAt (now (sheet .entry))) n (now (word .entry)) ⌝ }
-{
-    prepare(word, vals, marks, c, w);
-    block::decode(
-        sheet,
-        vals,
-        marks,
-        us,
-        eqs,
-        c,
-        w,
-        n,
-        0,
-        Tally { next: 0, eqs: 0 },
-    )
-}
-
-// The same, with zeros behind the equations: how many these are.
-fn decode_all(
+// The descent of a word, with a mark for each symbol: rows of its symbols, of u, and of the equations, with zeros behind
+// these. How many equations there are.
+pub fn run(
     n: usize,
     sheet: &[u8],
     word: &[u8],
@@ -91,29 +59,20 @@ fn decode_all(
     requires { ⌜ length (now marks) ≡ length (now word) ⌝ }
     ensures { λ r. ⌜ Filled n w (found n (now (sheet .entry)) (now (word .entry)) c w) (now (vals .exit)) (now (us .exit)) (now (eqs .exit)) r ⌝ }
 {
-    let t = decode_word(sheet, word, vals, marks, us, eqs, c, w, n);
-    let m = t.eqs;
-    let used = m * w;
+    prepare(word, vals, marks, c, w);
+    let t = block::decode(
+        sheet,
+        vals,
+        marks,
+        us,
+        eqs,
+        c,
+        w,
+        n,
+        0,
+        Tally { next: 0, eqs: 0 },
+    );
+    let used = t.eqs * w;
     rows::zero(eqs, used, eqs.len() - used);
-    m
-}
-
-// The descent of a word, with marks of its own.
-pub fn run(
-    n: usize,
-    sheet: &[u8],
-    word: &[u8],
-    c: usize,
-    w: usize,
-    vals: &mut [u64],
-    us: &mut [u64],
-    eqs: &mut [u64],
-) -> usize
-    requires { ⌜ Ready n (length (now sheet)) (length (now word)) c w (length (now vals)) (length (now us)) (length (now eqs)) ⌝ }
-    requires { ⌜ unknowns n (rules n (now sheet)) (now word) ≤ 64 * c ⌝ }
-    ensures { λ r. ⌜ Filled n w (found n (now (sheet .entry)) (now (word .entry)) c w) (now (vals .exit)) (now (us .exit)) (now (eqs .exit)) r ⌝ }
-{
-    let mut marks: [u8; meaning::limits::POSITIONS] = [0; meaning::limits::POSITIONS];
-    let size = word.len();
-    decode_all(n, sheet, word, c, w, vals, &mut marks[..size], us, eqs)
+    t.eqs
 }
