@@ -6,15 +6,17 @@ use mathlib.Core.Path.{_≡_, sym, ap, ap₂, _∙_}
 use Prim.Native.Nat.{ℕ, suc, _+_, _-_, _*_, _/_, _^_, _≤_, _<_}
 use native.Mathlib.Omega.{arith}
 use native.Mathlib.Nat.{add-mul, one-mul}
-use mathlib.Core.List.{List, _++_}
-use lib.ListN.{length, take, drop}
+use mathlib.Core.List.{List, [], _∷_, _++_}
+use lib.ListN.{length, take, drop, getD}
 use lib.Seq.{length-take-le}
-use Rattle.bits.specs.Rows.{Row}
+use Rattle.bits.specs.Rows.{Row, rows}
 use Rattle.meaning.specs.Limits.{recordBytes, maskBytes}
+use Rattle.meaning.specs.Sheet.{ruleAt}
 use Rattle.counting.proofs.Parts.{half-of, from, from-length}
-use Rattle.model.specs.Model.{Walk, joinOut}
+use Rattle.model.specs.Model.{Walk, joinOut, nextAt, eqsAt, outAt}
 use Rattle.descent.specs.Values.{rowValues}
-use Rattle.descent.specs.Block.{walkOf, outOf, decoded, Parted, Settled, Joined}
+use Rattle.descent.specs.Block.{slotOf, walkOf, outOf, decoded, Parted, Settled, Joined}
+use Rattle.descent.proofs.Leaves.{leaf-is}
 use Rattle.descent.proofs.Halves.{left-next, left-eqs, both-is, whole-done}
 
 pub halves : (k m v w : ℕ) → (k ≡ 0 → ⊥) → m ≡ 2 ^ k → v ≡ m * w → (m ≡ m / 2 + m / 2) × (m / 2 ≡ 2 ^ (k - 1)) × (v ≡ (m / 2) * w + (m / 2) * w)
@@ -38,23 +40,29 @@ module _ (c w k at i e : ℕ) (sheet v m us es : List ℕ) (z : k ≡ 0) (fit : 
   one : length m ≡ 1
   one = fit .0 ∙ ap (λ (x : ℕ). 2 ^ x) z
 
+  row : length v ≡ w
+  row = fit .1 ∙ ap (λ (x : ℕ). x * w) one ∙ one-mul w
+
+  meant : decoded c w sheet k m v (walkOf w at us i e es) ≡ outAt (rowValues c w) (ruleAt sheet at) (slotOf (getD m 0 0) v ∷ []) (walkOf w at us i e es)
+  meant = ap (λ (x : ℕ). decoded c w sheet x m v (walkOf w at us i e es)) z ∙ leaf-is c w at i e sheet v us es row m one
+
   pub leaf-ask : Near c at sheet m → Room c w k sheet v m (walkOf w at us i e es) (length es)
-      → ((length m ≡ 1) × (length v ≡ w) × (at * w + w ≤ length us) × (c < w)) × (((at < 8 * maskBytes) × ((at + 1) * recordBytes ≤ length sheet))
-      × (((decoded c w sheet 0 m v (walkOf w at us i e es)) .after .next ≤ 64 * c) × ((length ((decoded c w sheet 0 m v (walkOf w at us i e es)) .after .eqs) * w ≤ length es) × (64 * c < 2 ^ 63))))
+      → ((length v ≡ w) × (at * w + w ≤ length us) × (c < w)) × (((at < 8 * maskBytes) × ((at + 1) * recordBytes ≤ length sheet))
+      × (((nextAt (ruleAt sheet at) (slotOf (getD m 0 0) v) i ≤ 64 * c) × (64 * c < 2 ^ 63))
+      × (length (rows w e es ++ eqsAt (rowValues c w) (ruleAt sheet at) (slotOf (getD m 0 0) v) (rows w at us)) * w ≤ length es)))
   unfolding recordBytes maskBytes
   leaf-ask near room =
       let o = one in
       let u : (at + 1) * w ≤ length us = rw o at (fit .2) in
       let q = near .0 in
       let r = near .1 in
-      let n = rw z at (room .0) in
-      let f = rw z at (room .1) in
-      ((o, fit .1 ∙ ap (λ (x : ℕ). x * w) o ∙ one-mul w, (omega arith), fit .3), ((omega arith, omega arith), (n, (f, near .2))))
+      let n = rw meant at (room .0) in
+      let f = rw meant at (room .1) in
+      ((row, omega arith, fit .3), ((omega arith, omega arith), ((n, near .2), f)))
 
-  pub leaf-back : (v′ us′ es′ : List ℕ) (i′ e′ : ℕ) → outOf w 1 v′ (walkOf w (at + 1) us′ i′ e′ es′) ≡ decoded c w sheet 0 m v (walkOf w at us i e es)
+  pub leaf-back : (v′ us′ es′ : List ℕ) (i′ e′ : ℕ) → outOf w 1 v′ (walkOf w (at + 1) us′ i′ e′ es′) ≡ outAt (rowValues c w) (ruleAt sheet at) (slotOf (getD m 0 0) v ∷ []) (walkOf w at us i e es)
       → outOf w (length m) v′ (walkOf w (at + length m) us′ i′ e′ es′) ≡ decoded c w sheet k m v (walkOf w at us i e es)
-  leaf-back v′ us′ es′ i′ e′ h =
-      ap (λ (x : ℕ). outOf w x v′ (walkOf w (at + x) us′ i′ e′ es′)) one ∙ h ∙ ap (λ (x : ℕ). decoded c w sheet x m v (walkOf w at us i e es)) (sym z)
+  leaf-back v′ us′ es′ i′ e′ h = ap (λ (x : ℕ). outOf w x v′ (walkOf w (at + x) us′ i′ e′ es′)) one ∙ h ∙ sym meant
 
 -- a block
 module _ (c w k at i e h : ℕ) (sheet v m us es : List ℕ) (z : k ≡ 0 → ⊥) (fit : Fit c w k at v m us) (near : Near c at sheet m) (room : Room c w k sheet v m (walkOf w at us i e es) (length es))

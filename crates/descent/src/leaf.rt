@@ -1,15 +1,14 @@
 // One position, with the symbol that reaches it.
 ghost use mathlib.Core.Path.{_≡_};
-ghost use mathlib.Core.Option.{none, some};
-ghost use mathlib.Core.List.{_++_};
+ghost use mathlib.Core.List.{[], _∷_, _++_};
 ghost use Prim.Native.Nat.{_+_, _*_, _^_, _≤_, _<_};
 ghost use lib.ListN.{length};
-ghost use Rattle.bits.specs.Rows.{Row, rows};
+ghost use Rattle.bits.specs.Rows.{rows};
 ghost use Rattle.meaning.specs.Limits.{recordBytes, maskBytes};
 ghost use Rattle.meaning.specs.Sheet.{ruleAt};
-ghost use Rattle.model.specs.Model.{valueAt, nextAt, eqsAt};
+ghost use Rattle.model.specs.Model.{valueAt, nextAt, eqsAt, outAt};
 ghost use Rattle.descent.specs.Values.{rowValues};
-ghost use Rattle.descent.specs.Block.{walkOf, outOf, decoded};
+ghost use Rattle.descent.specs.Block.{slotOf, walkOf, outOf};
 use super::record;
 use bits::rows;
 
@@ -19,89 +18,82 @@ pub struct Tally {
     pub eqs: usize,
 }
 
-// An erased symbol: a new unknown, or what the rule says.
+// Of an erased symbol (mark 0), a new unknown or what the rule says; of a known one nothing. How many unknowns there are then.
 fn fill(
     sheet: &[u8],
     vals: &mut [u64],
     us: &[u64],
+    mark: u8,
     c: usize,
     w: usize,
     at: usize,
-    t: Tally,
-) -> Tally
+    next: usize,
+) -> usize
     requires { ⌜ (length (now vals) ≡ w) × (at * w ≤ length (now us)) × (c < w) ⌝ }
     requires { ⌜ (at < 8 * maskBytes) × ((at + 1) * recordBytes ≤ length (now sheet)) ⌝ }
-    requires { ⌜ nextAt {A = Row} (ruleAt (now sheet) at) none (t .next) ≤ 64 * c ⌝ }
-    requires { ⌜ 64 * c < 2 ^ 63 ⌝ }
-    ensures { λ r. ⌜ (now (vals .exit) ≡ valueAt (rowValues c w) (ruleAt (now (sheet .entry)) at) none (rows w at (now (us .entry))) (t .next)) × (r .next ≡ nextAt {A = Row} (ruleAt (now (sheet .entry)) at) none (t .next)) × (r .eqs ≡ t .eqs) ⌝ }
+    requires { ⌜ (nextAt (ruleAt (now sheet) at) (slotOf mark (now vals)) next ≤ 64 * c) × (64 * c < 2 ^ 63) ⌝ }
+    ensures { λ r. ⌜ (now (vals .exit) ≡ valueAt (rowValues c w) (ruleAt (now (sheet .entry)) at) (slotOf mark (now (vals .entry))) (rows w at (now (us .entry))) next) × (r ≡ nextAt (ruleAt (now (sheet .entry)) at) (slotOf mark (now (vals .entry))) next) ⌝ }
 {
-    if record::byte_at(sheet, at, 0) == 0 {
-        ruling::unknown_row(vals, t.next);
-        Tally {
-            next: t.next + 1,
-            eqs: t.eqs,
-        }
-    } else {
-        ruling::rule_row(vals, 0, us, sheet, at, c, w);
-        t
+    if mark != 0 {
+        return next;
     }
+    if record::byte_at(sheet, at, 0) != 0 {
+        ruling::rule_row(vals, 0, us, sheet, at, c, w);
+        return next;
+    }
+    ruling::unknown_row(vals, next);
+    next + 1
 }
 
-// A known symbol: where a rule stands, an equation.
+// Of a known symbol where a rule stands, an equation. How many equations there are then.
 fn hold(
     sheet: &[u8],
     vals: &[u64],
     us: &[u64],
     eqs: &mut [u64],
+    mark: u8,
     c: usize,
     w: usize,
     at: usize,
-    t: Tally,
-) -> Tally
+    e: usize,
+) -> usize
     requires { ⌜ (length (now vals) ≡ w) × (at * w ≤ length (now us)) × (c < w) ⌝ }
     requires { ⌜ (at < 8 * maskBytes) × ((at + 1) * recordBytes ≤ length (now sheet)) ⌝ }
-    requires { ⌜ length (rows w (t .eqs) (now eqs) ++ eqsAt (rowValues c w) (ruleAt (now sheet) at) (some (now vals)) (rows w at (now us))) * w ≤ length (now eqs) ⌝ }
-    ensures { λ r. ⌜ (rows w (r .eqs) (now (eqs .exit)) ≡ rows w (t .eqs) (now (eqs .entry)) ++ eqsAt (rowValues c w) (ruleAt (now (sheet .entry)) at) (some (now (vals .entry))) (rows w at (now (us .entry)))) × (r .next ≡ t .next) ⌝ }
+    requires { ⌜ length (rows w e (now eqs) ++ eqsAt (rowValues c w) (ruleAt (now sheet) at) (slotOf mark (now vals)) (rows w at (now us))) * w ≤ length (now eqs) ⌝ }
+    ensures { λ r. ⌜ rows w r (now (eqs .exit)) ≡ rows w e (now (eqs .entry)) ++ eqsAt (rowValues c w) (ruleAt (now (sheet .entry)) at) (slotOf mark (now (vals .entry))) (rows w at (now (us .entry))) ⌝ }
 {
-    if record::byte_at(sheet, at, 0) == 0 {
-        t
-    } else {
-        let e = t.eqs * w;
-        ruling::rule_row(eqs, e, us, sheet, at, c, w);
-        rows::add(eqs, e, vals, 0, w);
-        Tally {
-            next: t.next,
-            eqs: t.eqs + 1,
-        }
+    if mark == 0 {
+        return e;
     }
+    if record::byte_at(sheet, at, 0) == 0 {
+        return e;
+    }
+    let to = e * w;
+    ruling::rule_row(eqs, to, us, sheet, at, c, w);
+    rows::add(eqs, to, vals, 0, w);
+    e + 1
 }
 
-// Position `at`.
+// Position `at`, with its symbol's row and mark.
 pub fn position(
     sheet: &[u8],
     vals: &mut [u64],
-    marks: &mut [u8],
     us: &mut [u64],
     eqs: &mut [u64],
+    mark: u8,
     c: usize,
     w: usize,
     at: usize,
     t: Tally,
 ) -> Tally
-    requires { ⌜ (length (now marks) ≡ 1) × (length (now vals) ≡ w) × (at * w + w ≤ length (now us)) × (c < w) ⌝ }
+    requires { ⌜ (length (now vals) ≡ w) × (at * w + w ≤ length (now us)) × (c < w) ⌝ }
     requires { ⌜ (at < 8 * maskBytes) × ((at + 1) * recordBytes ≤ length (now sheet)) ⌝ }
-    requires { ⌜ (decoded c w (now sheet) 0 (now marks) (now vals) (walkOf w at (now us) (t .next) (t .eqs) (now eqs))) .after .next ≤ 64 * c ⌝ }
-    requires { ⌜ length ((decoded c w (now sheet) 0 (now marks) (now vals) (walkOf w at (now us) (t .next) (t .eqs) (now eqs))) .after .eqs) * w ≤ length (now eqs) ⌝ }
-    requires { ⌜ 64 * c < 2 ^ 63 ⌝ }
-    ensures { λ r. ⌜ outOf w 1 (now (vals .exit)) (walkOf w (at + 1) (now (us .exit)) (r .next) (r .eqs) (now (eqs .exit))) ≡ decoded c w (now (sheet .entry)) 0 (now (marks .entry)) (now (vals .entry)) (walkOf w at (now (us .entry)) (t .next) (t .eqs) (now (eqs .entry))) ⌝ }
+    requires { ⌜ (nextAt (ruleAt (now sheet) at) (slotOf mark (now vals)) (t .next) ≤ 64 * c) × (64 * c < 2 ^ 63) ⌝ }
+    requires { ⌜ length (rows w (t .eqs) (now eqs) ++ eqsAt (rowValues c w) (ruleAt (now sheet) at) (slotOf mark (now vals)) (rows w at (now us))) * w ≤ length (now eqs) ⌝ }
+    ensures { λ r. ⌜ outOf w 1 (now (vals .exit)) (walkOf w (at + 1) (now (us .exit)) (r .next) (r .eqs) (now (eqs .exit))) ≡ outAt (rowValues c w) (ruleAt (now (sheet .entry)) at) (slotOf mark (now (vals .entry)) ∷ []) (walkOf w at (now (us .entry)) (t .next) (t .eqs) (now (eqs .entry))) ⌝ }
 {
-    if marks[0] == 0 {
-        let r = fill(sheet, vals, us, c, w, at, t);
-        rows::copy(us, at * w, vals, 0, w);
-        r
-    } else {
-        let r = hold(sheet, vals, us, eqs, c, w, at, t);
-        rows::copy(us, at * w, vals, 0, w);
-        r
-    }
+    let e = hold(sheet, vals, us, eqs, mark, c, w, at, t.eqs);
+    let next = fill(sheet, vals, us, mark, c, w, at, t.next);
+    rows::copy(us, at * w, vals, 0, w);
+    Tally { next, eqs: e }
 }

@@ -1,7 +1,7 @@
 -- Whether a row has its place: the tests of `fits`, one after the other, and what `rule_row` leaves.
 --     narrow, far, short, few, low, last     each test of the code, and what the definition then says
 --     room, has-room                         what holds where all is there
---     ruled-is, ruled-not                    what `rule_row` leaves
+--     ruled-is, ruled-not, ruled-at          what `rule_row` leaves
 use mathlib.Core.Path.{_≡_, refl, sym, ap, _∙_}
 use Prim.Native.Nat.{ℕ, _+_, _-_, _*_, _/_, _≤_, _<_}
 use native.Mathlib.Omega.{arith}
@@ -82,3 +82,7 @@ module _ (d : List ℕ) (to : ℕ) (us sheet : List ℕ) (at c w : ℕ) where
   pub ruled-not : fitting (length d) to (length us) (length sheet) at c w ≡ false → ruled d to us sheet at c w ≡ d
   unfolding ruled
   ruled-not h = rw h
+
+  pub ruled-at : (d′ : List ℕ) → d′ ≡ ruled d to us sheet at c w → (to + w ≤ length d) × (at * w ≤ length us) × (c < w) → (at < 8 * maskBytes) × ((at + 1) * recordBytes ≤ length sheet)
+      → d′ ≡ paste d to (ruleValue (rowValues c w) (eqb (byte sheet at 1) 1) (mask sheet at) (rows w at us)) w
+  ruled-at d′ e a b = e ∙ ruled-is (has-room (length d) to (length us) (length sheet) at c w a b)

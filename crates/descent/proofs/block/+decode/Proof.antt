@@ -1,5 +1,5 @@
 use mathlib.Core.Path.{_≡_, refl, sym, ap, _∙_}
-use Prim.Native.Nat.{ℕ, _*_, _/_, _<_}
+use Prim.Native.Nat.{ℕ, _*_, _/_, _^_, _<_}
 use native.Mathlib.Omega.{arith}
 use native.Mathlib.Nat.{add-mul}
 use mathlib.Core.List.{_++_}
@@ -44,6 +44,12 @@ calls t = (
   join-reads.Asked,
   join-reads.Learnt,
 )
+
+decode-slice-read-position : (t : ℕ) → decode-lts.Need-slice-read-position (calls t) (decode-at t) decode.Post
+decode-slice-read-position t c =
+    let S = c .before .before .before .before .before .before .before .before .before .before in
+    let o : length (S .args .marks .now) ≡ 1 = S .pre .1 .0 .0 ∙ ap (λ (x : ℕ). 2 ^ x) (c .before .before .before .before .if1 .taken) in
+    omega arith
 
 decode-position-requires : (t : ℕ) → decode-lts.Need-position-requires (calls t) (decode-at t) decode.Post
 decode-position-requires t c κs =
@@ -148,7 +154,7 @@ decode-settle-requires t c κs =
     let P = p .part in
     let lv₁ = P .kept .0 ∙ e in
     let lm₁ = P .kept .1 .0 ∙ a in
-    (c .before .before .before .before .before .before .before .marks3 .given .1 ∙ lm₁, c .before .before .before .before .before .before .before .before .before .vals3 .given .1 ∙ lv₁ ∙ sym (add-mul h h w))
+    (c .before .before .before .before .before .before .before .marks2 .given .1 ∙ lm₁, c .before .before .before .before .before .before .before .before .before .vals3 .given .1 ∙ lv₁ ∙ sym (add-mul h h w))
 
 decode-mul-decode : (t : ℕ) → decode-lts.Need-mul-decode (calls t) (decode-at t) decode.Post
 decode-mul-decode t c =
@@ -202,13 +208,13 @@ decode-sub-decode-3 : (t : ℕ) → decode-lts.Need-sub-decode-3 (calls t) (deco
 decode-sub-decode-3 t c =
     let q = c .before .before .before .before .before in
     let p = q .before .before .before .before .before .before .before .before .before .before .before .before .before .before .before .before .before .before .before .before in
-    omega (arith, p .part .kept .1 .0, q .before .before .before .before .before .before .before .before .marks3 .given, q .settle .kept .1 .0)
+    omega (arith, p .part .kept .1 .0, q .before .before .before .before .before .before .before .before .marks2 .given, q .settle .kept .1 .0)
 
 decode-part-decode-start-2 : (t : ℕ) → decode-lts.Need-part-decode-start-2 (calls t) (decode-at t) decode.Post
 decode-part-decode-start-2 t c =
     let q = c .before .before .before .before .before in
     let p = q .before .before .before .before .before .before .before .before .before .before .before .before .before .before .before .before .before .before .before .before in
-    omega (arith, p .part .kept .1 .0, q .before .before .before .before .before .before .before .before .marks3 .given, q .settle .kept .1 .0)
+    omega (arith, p .part .kept .1 .0, q .before .before .before .before .before .before .before .before .marks2 .given, q .settle .kept .1 .0)
 
 decode-part-decode-end-2 : (t : ℕ) → decode-lts.Need-part-decode-end-2 (calls t) (decode-at t) decode.Post
 decode-part-decode-end-2 t c = omega arith
@@ -242,7 +248,7 @@ decode-decode-requires-2 t c κs =
     let lvL : length vL ≡ h * w = D .kept .1 .0 ∙ length-take-le (h * w) (P .last .0) (omega arith) in
     let lmL : length mL ≡ h = D .kept .1 .1 .0 ∙ length-take-le h (P .last .1 .0) (omega arith) in
     let Q = q .settle in
-    let lm₃ = Q .kept .1 .0 ∙ q .before .before .before .before .before .before .before .before .marks3 .given .1 ∙ lm₁ in
+    let lm₃ = Q .kept .1 .0 ∙ q .before .before .before .before .before .before .before .before .marks2 .given .1 ∙ lm₁ in
     let lv₃ = Q .kept .0 ∙ q .before .before .before .before .before .before .before .before .before .before .vals3 .given .1 ∙ lv₁ in (
       omega (arith, E .if1 .left, S .pre .0),
       ask-right (A .c) w (A .k) (A .at) (A .t .next) (A .t .eqs) h (A .sheet .now) v₀ m₀ (A .us .now) (A .eqs .now) (E .if1 .left) (S .pre .1 .0) (S .pre .1 .1 .0) (S .pre .1 .1 .1) b a
@@ -272,47 +278,44 @@ decode-join-requires t c κs =
     (c .before .before .before .before .before .before .before .before .vals5 .given .1 ∙ q .settle .kept .0 ∙ q .before .before .before .before .before .before .before .before .before .before .vals3 .given .1 ∙ lv₁ ∙ sym (add-mul h h w), omega arith)
 
 decode-same-length : (t : ℕ) → decode-lts.Need-same-length (calls t) (decode-at t) decode.Post
-decode-same-length t c = c .before .before .before .before .before .before .before .before .position .kept .1 .0
+decode-same-length t c = c .before .before .before .before .before .before .position .kept .1 .0
 
 decode-same-length-2 : (t : ℕ) → decode-lts.Need-same-length-2 (calls t) (decode-at t) decode.Post
-decode-same-length-2 t c = c .before .before .before .before .before .before .before .before .position .kept .1 .1 .0
+decode-same-length-2 t c = c .before .before .before .before .before .before .position .kept .1 .1 .0
 
 decode-same-length-3 : (t : ℕ) → decode-lts.Need-same-length-3 (calls t) (decode-at t) decode.Post
-decode-same-length-3 t c = c .before .before .before .before .before .before .before .before .position .kept .1 .1 .1 .0
-
-decode-same-length-4 : (t : ℕ) → decode-lts.Need-same-length-4 (calls t) (decode-at t) decode.Post
-decode-same-length-4 t c = c .before .before .before .before .before .before .before .before .position .kept .1 .1 .1 .1 .0
+decode-same-length-3 t c = c .before .before .before .before .before .before .position .kept .1 .1 .1 .0
 
 decode-returns : (t : ℕ) → decode-lts.Need-returns (calls t) (decode-at t) decode.Post
 decode-returns t c =
-    let l = c .before .before .before .before .before .before .before .before in
+    let l = c .before .before .before .before .before .before in
     let L = l .position in
     let S = l .before .before .before .before .before .before .before .before .before .before .before in
     let A = S .args in
     leaf-back (A .c) (A .w) (A .k) (A .at) (A .t .next) (A .t .eqs) (A .sheet .now) (A .vals .now) (A .marks .now) (A .us .now) (A .eqs .now) (l .before .before .before .before .before .if1 .taken) (S .pre .1 .0)
-    (L .last .1 .0) (L .last .1 .1 .1 .0) (L .last .1 .1 .1 .1 .0) (L .result .next) (L .result .eqs) (L .ensures)
+    (L .last .1 .0) (L .last .1 .1 .0) (L .last .1 .1 .1 .0) (L .result .next) (L .result .eqs) (L .ensures)
 
-decode-same-length-5 : (t : ℕ) → decode-lts.Need-same-length-5 (calls t) (decode-at t) decode.Post
-decode-same-length-5 t c =
+decode-same-length-4 : (t : ℕ) → decode-lts.Need-same-length-4 (calls t) (decode-at t) decode.Post
+decode-same-length-4 t c =
     let r = c .before .before .before .before .before .before .before .before .before .before .before in
     let q = r .before .before .before .before .before .before .before .before .before .before in
     let l = q .before .before .before .before .before .before .before .before .before .before in
     c .before .before .join .kept .0 ∙ r .vals5 .given .1 ∙ q .settle .kept .0 ∙ l .vals3 .given .1 ∙ l .before .before .before .before .before .before .before .before .before .before .part .kept .0
 
-decode-same-length-6 : (t : ℕ) → decode-lts.Need-same-length-6 (calls t) (decode-at t) decode.Post
-decode-same-length-6 t c =
+decode-same-length-5 : (t : ℕ) → decode-lts.Need-same-length-5 (calls t) (decode-at t) decode.Post
+decode-same-length-5 t c =
     let r = c .before .before .before .before .before .before .before .before .before in
     let q = r .before .before .before .before .before .before .before .before .before .before .before .before in
     let l = q .before .before .before .before .before .before .before .before in
-    r .marks5 .given .1 ∙ q .settle .kept .1 .0 ∙ l .marks3 .given .1 ∙ l .before .before .before .before .before .before .before .before .before .before .before .before .part .kept .1 .0
+    r .marks4 .given .1 ∙ q .settle .kept .1 .0 ∙ l .marks2 .given .1 ∙ l .before .before .before .before .before .before .before .before .before .before .before .before .part .kept .1 .0
 
-decode-same-length-7 : (t : ℕ) → decode-lts.Need-same-length-7 (calls t) (decode-at t) decode.Post
-decode-same-length-7 t c =
+decode-same-length-6 : (t : ℕ) → decode-lts.Need-same-length-6 (calls t) (decode-at t) decode.Post
+decode-same-length-6 t c =
     let r = c .before .before .before .before .before .before .before .before .before .before .before .before in
     r .decode2 .kept .1 .1 .1 .0 ∙ r .before .before .before .before .before .before .before .before .before .before .before .before .before .before .before .before .before .before .before .before .decode .kept .1 .1 .1 .0
 
-decode-same-length-8 : (t : ℕ) → decode-lts.Need-same-length-8 (calls t) (decode-at t) decode.Post
-decode-same-length-8 t c =
+decode-same-length-7 : (t : ℕ) → decode-lts.Need-same-length-7 (calls t) (decode-at t) decode.Post
+decode-same-length-7 t c =
     let r = c .before .before .before .before .before .before .before .before .before .before .before .before in
     r .decode2 .kept .1 .1 .1 .1 .0 ∙ r .before .before .before .before .before .before .before .before .before .before .before .before .before .before .before .before .before .before .before .before .decode .kept .1 .1 .1 .1 .0
 
@@ -341,7 +344,7 @@ decode-returns-2 t c =
     let lvL : length vL ≡ h * w = D .kept .1 .0 ∙ length-take-le (h * w) (P .last .0) (omega arith) in
     let lmL : length mL ≡ h = D .kept .1 .1 .0 ∙ length-take-le h (P .last .1 .0) (omega arith) in
     let Q = q .settle in
-    let lm₃ = Q .kept .1 .0 ∙ q .before .before .before .before .before .before .before .before .marks3 .given .1 ∙ lm₁ in
+    let lm₃ = Q .kept .1 .0 ∙ q .before .before .before .before .before .before .before .before .marks2 .given .1 ∙ lm₁ in
     let lv₃ = Q .kept .0 ∙ q .before .before .before .before .before .before .before .before .before .before .vals3 .given .1 ∙ lv₁ in
     let vR = R .last .1 .0 in
     done (A .c) w (A .k) (A .at) (A .t .next) (A .t .eqs) h (A .sheet .now) v₀ m₀ (A .us .now) (A .eqs .now) (E .if1 .left) (S .pre .1 .0) (S .pre .1 .1 .0) (S .pre .1 .1 .1) b a
@@ -355,6 +358,7 @@ pub +decode-spec : {M : Type 1} → statement M
 +decode-spec = close μ-decode λ t. decode-lts.spec (calls t)
     (decode-at t)
     decode.Post
+    (decode-slice-read-position t)
     (decode-position-requires t)
     (decode-mul-half t)
     (decode-part-requires t)
@@ -379,10 +383,9 @@ pub +decode-spec : {M : Type 1} → statement M
     (decode-same-length t)
     (decode-same-length-2 t)
     (decode-same-length-3 t)
-    (decode-same-length-4 t)
     (decode-returns t)
+    (decode-same-length-4 t)
     (decode-same-length-5 t)
     (decode-same-length-6 t)
     (decode-same-length-7 t)
-    (decode-same-length-8 t)
     (decode-returns-2 t)
