@@ -15,7 +15,7 @@ use Rattle.bits.specs.Rows.{Row, _⊻_, part, row, rows, added, copied}
 use Rattle.bits.proofs.Tests.{length-tab}
 use Rattle.bits.proofs.RowLaws.{length-⊻, ⊻-comm, paste-part, paste-again, paste-all, length-written, row-zero, rows-put, added-fits, copied-fits}
 use Rattle.meaning.specs.Sheet.{Rule, free, frozen, ruleAt}
-use Rattle.model.specs.Model.{Walk, Out, ruleValue, valueAt, nextAt, eqsAt, outAt, decode}
+use Rattle.model.specs.Model.{Walk, ruleValue, valueAt, nextAt, eqsAt, outAt, decode}
 use Rattle.model.proofs.Steps.{decode-one}
 use Rattle.descent.specs.Values.{unknownRow, rowValues}
 use Rattle.descent.specs.Block.{slotOf, symAt, syms, walkOf, outOf, decoded}

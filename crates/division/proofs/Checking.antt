@@ -1,16 +1,17 @@
 -- From the remainder to what `divides` and `append` promise.
---     tail-length, attached        bytes with their check bits behind them
---     known, unknown               whether there is a check of length r
---     fitting-room, -short         what `fits` tells
---     appending-is, -not           what `append` leaves
+--     tail-length, attached                 bytes with their check bits behind them
+--     known, known-listed, not-listed       whether there is a check of length r
+--     dividing-is, -not, fed-tells          what `divides` answers
+--     fitting-..                            what `fits` tells
+--     appending-is, -not                    what `append` leaves
 use mathlib.Core.Path.{_≡_, refl, sym, ap, ap₂, _∙_}
 use mathlib.Core.Logic.{_⊎_, inl, inr, ⊎-elim}
 use Prim.Native.Nat.{ℕ, _+_, _-_, _<_, _≤_}
 use native.Mathlib.Omega.{arith}
-use mathlib.Core.Bool.{Bool, true, false, _&&_, _||_}
+use mathlib.Core.Bool.{Bool, true, false, _||_}
 use mathlib.Core.List.{List, _++_, map}
 use lib.ListN.{length, take, drop, replicate, length-drop, length-append}
-use lib.Seq.{take-all, take-at, length-take-le}
+use lib.Seq.{take-all, take-at}
 use lib.Dec.{eqb}
 use borrow.Author.Tests.{eq-eqb, ne-eqb, eqb-true, eqb-false}
 use borrow.Rule.Slice.PartMut.{putMid}
