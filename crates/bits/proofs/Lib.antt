@@ -1,5 +1,5 @@
 -- Xor: XOR of bits and vectors. Tests: tests over lists, tables, searches. Rising: the order of vectors. Words: machine words. WordBits: their bits one by one.
--- RowLaws: rows of words in lists of words. Writing: what the loops of the functions on rows keep.
+-- RowLaws: rows of words in lists of words. Writing: what the loops of the functions on rows keep. Parts: a block by its halves, and the part of a slice from a place on.
 pub mod Xor
 pub mod Tests
 pub mod Rising
@@ -7,3 +7,4 @@ pub mod Words
 pub mod WordBits
 pub mod RowLaws
 pub mod Writing
+pub mod Parts

@@ -12,7 +12,7 @@ use lib.Seq.{length-take-le}
 use Rattle.bits.specs.Rows.{Row, rows}
 use Rattle.meaning.specs.Limits.{recordBytes, maskBytes}
 use Rattle.meaning.specs.Sheet.{ruleAt}
-use Rattle.counting.proofs.Parts.{half-of, from, from-length}
+use Rattle.bits.proofs.Parts.{half-of, from, from-length}
 use Rattle.model.specs.Model.{Walk, joinOut, nextAt, eqsAt, outAt}
 use Rattle.descent.specs.Values.{rowValues}
 use Rattle.descent.specs.Block.{slotOf, walkOf, outOf, decoded, Parted, Settled, Joined}

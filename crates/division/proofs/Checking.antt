@@ -21,7 +21,7 @@ use Rattle.meaning.specs.Limits.{leads}
 use Rattle.meaning.specs.Check.{poly, divides}
 use Rattle.meaning.specs.Payload.{remainder}
 use Rattle.meaning.specs.Answers.{isOne}
-use Rattle.counting.proofs.Parts.{from, back}
+use Rattle.bits.proofs.Parts.{from, back}
 use Rattle.division.specs.Division.{toBits, Fed, listed, fitting, dividing, appending}
 use Rattle.division.proofs.Division.{remainder-is, fed-zero}
 

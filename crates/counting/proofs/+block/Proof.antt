@@ -6,7 +6,7 @@ use lib.Seq.{length-take-le}
 use borrow.Author.Needs.{needs}
 use Rattle.meaning.specs.Limits.{maskBytes, recordBytes}
 use Rattle.counting.specs.Halves.{openFrees}
-use Rattle.counting.proofs.Parts.{half-of, from-back}
+use Rattle.bits.proofs.Parts.{half-of, from-back}
 use Rattle.counting.proofs.Counting.{counts-one, counts-most, counts-halves}
 use borrow.Fn.Kinds.{In}
 use borrow.Fn.PlainCycle.{Measures, is, falls, and}

@@ -7,7 +7,7 @@ use lib.ListN.{length, take, drop, length-take}
 use lib.Seq.{length-take-le}
 use Rattle.meaning.specs.Limits.{maskBytes, recordBytes}
 use Rattle.model.specs.Model.{decode}
-use Rattle.counting.proofs.Parts.{back, from-length}
+use Rattle.bits.proofs.Parts.{back, from-length}
 use Rattle.descent.proofs.Asks.{halves, leaf-ask, leaf-back, ask-left, ask-right, done}
 use borrow.Fn.Kinds.{In}
 use borrow.Fn.PlainCycle.{Measures, is, falls, and}
