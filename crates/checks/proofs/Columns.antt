@@ -21,7 +21,7 @@ use Rattle.bits.proofs.RowLaws.{getD-⊻, length-⊻, length-part, getD-part, r
 use Rattle.meaning.specs.Sheet.{rules}
 use Rattle.model.specs.Related.{Along, nil, cons, Bound}
 use Rattle.model.proofs.Relate.{along-length, checks-bound}
-use Rattle.descent.specs.Values.{rowValues}
+use Rattle.ruling.specs.Values.{rowValues}
 use Rattle.checks.specs.Registers.{wordValues, column, remainder, Put, ColumnsUpTo}
 use Rattle.checks.specs.Checking.{checkOf}
 use Rattle.checks.proofs.Shifting.{checks-is, length-remainder}

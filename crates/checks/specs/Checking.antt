@@ -13,7 +13,7 @@ use Rattle.bits.specs.Rows.{Row, rows}
 use Rattle.meaning.specs.Limits.{largestN, recordBytes}
 use Rattle.meaning.specs.Sheet.{rules}
 use Rattle.model.specs.Model.{checks}
-use Rattle.descent.specs.Values.{rowValues}
+use Rattle.ruling.specs.Values.{rowValues}
 use Rattle.descent.specs.Descending.{widest}
 
 -- ---- what fits together, by its lengths

@@ -27,7 +27,7 @@ use Rattle.meaning.specs.Answers.{Reply, leaving, verdict}
 use Rattle.meaning.specs.declared.Answer.the-variants.{TooMany}
 use Rattle.meaning.proofs.Sound.{length-rules}
 use Rattle.model.specs.Model.{checks, run, system}
-use Rattle.descent.specs.Values.{rowValues}
+use Rattle.ruling.specs.Values.{rowValues}
 use Rattle.counting.specs.Counting.{shaped}
 use Rattle.descent.specs.Descending.{widest, roomy, filled, fitting, Outcome, descended, found, written, descending}
 use Rattle.descent.specs.declared.Descent.{Descent}

@@ -23,7 +23,7 @@ use Rattle.meaning.specs.declared.Answer.the-variants.{Done, BadCeiling, TooMan
 use Rattle.gf2.specs.Rows.{rowsOf}
 use Rattle.gf2.specs.Solve.{solve}
 use Rattle.model.specs.Model.{checks}
-use Rattle.descent.specs.Values.{rowValues}
+use Rattle.ruling.specs.Values.{rowValues}
 
 -- the rows of `formRefusals`, of an output with this room
 unfoldable pub decodeFault : ℕ → List ℕ → ℕ → ℕ → List ℕ → ℕ → Answer

@@ -17,7 +17,7 @@ use Rattle.bits.proofs.RowLaws.{length-⊻, ⊻-comm, paste-part, paste-again, 
 use Rattle.meaning.specs.Sheet.{Rule, free, frozen, ruleAt}
 use Rattle.model.specs.Model.{Walk, ruleValue, valueAt, nextAt, eqsAt, outAt, decode}
 use Rattle.model.proofs.Steps.{decode-one}
-use Rattle.descent.specs.Values.{unknownRow, rowValues}
+use Rattle.ruling.specs.Values.{unknownRow, rowValues}
 use Rattle.descent.specs.Block.{slotOf, symAt, syms, walkOf, outOf, decoded}
 
 slot-erased : (mark : ℕ) (v : List ℕ) → mark ≡ 0 → slotOf mark v ≡ none

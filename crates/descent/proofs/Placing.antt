@@ -13,7 +13,7 @@ use lib.Seq.{paste, getD-set-same, getD-set-other}
 use Rattle.bits.specs.Rows.{Row, row, zeroed}
 use Rattle.bits.proofs.RowLaws.{paste-set, row-room, row-same, row-other, zeroed-fits}
 use Rattle.model.specs.Model.{symbol}
-use Rattle.descent.specs.Values.{unitRow, rowValues}
+use Rattle.ruling.specs.Values.{unitRow, rowValues}
 use Rattle.descent.specs.Block.{slotOf, symAt, PlaceOne, Prepared}
 
 gone : (c w s : ℕ) → 1 < s → none ≡ symbol (rowValues c w) s

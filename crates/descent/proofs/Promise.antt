@@ -29,7 +29,7 @@ use Rattle.model.proofs.Relate.{run-bound}
 use Rattle.model.proofs.Halves.{opens-symbols}
 use Rattle.model.proofs.AtBits.{rules-start}
 use Rattle.model.proofs.Steps.{counted}
-use Rattle.descent.specs.Values.{rowValues}
+use Rattle.ruling.specs.Values.{rowValues}
 use Rattle.descent.specs.Descending.{fitting, Outcome, descended, found, written, descending, Ready, Filled}
 use Rattle.descent.specs.declared.Descent.{Descent}
 use Rattle.descent.specs.declared.Descent.the-variants.{Misfit, Over, Done}

@@ -21,7 +21,7 @@ use Rattle.counting.proofs.Lengths.{positions}
 use Rattle.counting.proofs.Counting.{map-tab}
 use Rattle.model.specs.Model.{Values, Walk, Out, leftSyms, rightSyms, eqsAt, decode, symbol, run}
 use Rattle.model.proofs.Steps.{run-unknowns}
-use Rattle.descent.specs.Values.{rowValues}
+use Rattle.ruling.specs.Values.{rowValues}
 use Rattle.descent.specs.Block.{symAt, walkOf, outOf, decoded, Prepared}
 use Rattle.descent.specs.Descending.{widest, found, Ready, Filled}
 

@@ -14,7 +14,7 @@ use lib.Seq.{paste, getD-set-same, getD-set-other}
 use Rattle.bits.specs.Rows.{Row, _⊻_, row, copiedWithin, addedWithin}
 use Rattle.bits.proofs.RowLaws.{length-⊻, length-row, row-room, row-same, row-other, rows-apart, copiedWithin-fits, addedWithin-fits}
 use Rattle.model.specs.Model.{leftSym, rightSym}
-use Rattle.descent.specs.Values.{rowValues}
+use Rattle.ruling.specs.Values.{rowValues}
 use Rattle.descent.specs.Block.{slotOf, due, symAt, Split, PartOne, Parted, SettleOne, Settled, Joined}
 
 -- ---- rows of a block of n slots, copied or added

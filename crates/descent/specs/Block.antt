@@ -13,7 +13,7 @@ use Rattle.bits.specs.Vectors.{tab}
 use Rattle.bits.specs.Rows.{Row, _⊻_, row, rows}
 use Rattle.meaning.specs.Sheet.{ruleAt}
 use Rattle.model.specs.Model.{Walk, Out, leftSym, rightSym, decode, symbol}
-use Rattle.descent.specs.Values.{rowValues}
+use Rattle.ruling.specs.Values.{rowValues}
 
 abbrev pub slotOf : ℕ → Row → Option Row
 slotOf zero x = none

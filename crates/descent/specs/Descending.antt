@@ -1,4 +1,4 @@
--- What `descend` promises. A sheet of N = 2 ^ n records, a word of N symbols, rows of w words (Values), and three lists of N rows each.
+-- What `descend` promises. A sheet of N = 2 ^ n records, a word of N symbols, rows of w words (`ruling`'s Values), and three lists of N rows each.
 --     widest               the most words of a row
 --     fitting              whether all that is handed over fits together
 --     Outcome, descended   an answer, and what the three lists hold
@@ -16,7 +16,7 @@ use Rattle.meaning.specs.Sheet.{ruleAt, rules}
 use Rattle.meaning.specs.Open.{unknowns}
 use Rattle.counting.specs.Counting.{shaped}
 use Rattle.model.specs.Model.{Out, run}
-use Rattle.descent.specs.Values.{rowValues}
+use Rattle.ruling.specs.Values.{rowValues}
 use Rattle.descent.specs.declared.Descent.{Descent}
 use Rattle.descent.specs.declared.Descent.the-variants.{Misfit, Over, Done}
 

@@ -11,7 +11,6 @@ use mathlib.Core.Bool.{Bool, true, false}
 use mathlib.Core.List.{List, [], _∷_, map, List·Memᴰ, List·Memᴰ·head, List·Memᴰ·tail}
 use lib.ListN.{length, length-append, length-drop, length-map}
 use lib.Dec.{ltb}
-use lib.Pow.{pow-mono}
 use borrow.Author.Tests.{ltb-true, ltb-false, lt-ltb, eqb-true, not-false}
 use Rattle.bits.specs.Vectors.{bit, pick, ones, firstPlace}
 use Rattle.bits.proofs.Tests.{length-tab}
@@ -30,6 +29,7 @@ use Rattle.meaning.proofs.Dimension.{dimension-is}
 use Rattle.meaning.proofs.Gap.{d-le-g}
 use Rattle.meaning.proofs.Forms.{Good, good}
 use Rattle.stream.specs.Laying.{small, Small}
+use Rattle.stream.proofs.Counting.{size-low}
 
 -- a fact of what each row answers, and of what is given where none applies
 module _ (P : Reply → Type 0) (out : List ℕ) (z : Reply) where
@@ -130,13 +130,9 @@ closed-few (frozen c m ∷ ks) (true ∷ o) = omega (arith, closed-few ks o)
 closed-few (frozen c m ∷ ks) (false ∷ o) = omega (arith, closed-few ks o)
 
 module _ (n : ℕ) (h : n ≤ largestN) where
-  low : 2 ^ n ≤ 128
-  unfolding largestN
-  low = omega (arith, pow-mono h)
-
   unknowns-few : (s w : List ℕ) → unknowns n (rules n s) w < 256
   unfolding unknowns
-  unknowns-few s w = omega (arith, open-few (rules n s) (openAll n w), length-rules n s, low)
+  unknowns-few s w = omega (arith, open-few (rules n s) (openAll n w), length-rules n s, size-low n h)
 
   equations-few : (s w : List ℕ) (r : ℕ) → (r ≡ 0) ⊎ ((r ≡ 6) ⊎ (r ≡ 11)) → equations n (rules n s) r w < 256
   unfolding equations
@@ -146,9 +142,9 @@ module _ (n : ℕ) (h : n ≤ largestN) where
       l = closed-few (rules n s) (openAll n w)
 
       go : (r ≡ 0) ⊎ ((r ≡ 6) ⊎ (r ≡ 11)) → ones (closedFrozen (rules n s) (openAll n w)) + r < 256
-      go (inl e) = omega (arith, l, length-rules n s, low)
-      go (inr (inl e)) = omega (arith, l, length-rules n s, low)
-      go (inr (inr e)) = omega (arith, l, length-rules n s, low)
+      go (inl e) = omega (arith, l, length-rules n s, size-low n h)
+      go (inr (inl e)) = omega (arith, l, length-rules n s, size-low n h)
+      go (inr (inr e)) = omega (arith, l, length-rules n s, size-low n h)
 
   verdict-small : (s w out : List ℕ) (r : ℕ) → Good n s r → (cs : List (List Bool)) → (cs ≡ candidates n (rules n s) r w)
       → Small ((verdict n (unknowns n (rules n s) w) (equations n (rules n s) r w) cs out) .answer)
@@ -166,13 +162,13 @@ module _ (n : ℕ) (h : n ≤ largestN) where
       by-rows (λ (t : Reply). Small (t .answer)) out (verdict n (unknowns n (rules n s) w) (equations n (rules n s) r w) (candidates n (rules n s) r w) out) (decodeRefusals n s r c w out) (
         λ _. refl,
         λ a. (
-          λ e. rw (lt-ltb (badRecord n s) 256 (omega (arith, ltb-true (badRecord n s) (2 ^ n) e, low))),
+          λ e. rw (lt-ltb (badRecord n s) 256 (omega (arith, ltb-true (badRecord n s) (2 ^ n) e, size-low n h))),
           λ b. (
             λ _. refl,
             λ d. (
               λ _. refl,
               λ l. (
-                λ e. rw (lt-ltb (firstPlace (ltb 2) w) 256 (omega (arith, ltb-true (firstPlace (ltb 2) w) (length w) e, eqb-true (length w) (2 ^ n) (not-false _ l), low))),
+                λ e. rw (lt-ltb (firstPlace (ltb 2) w) 256 (omega (arith, ltb-true (firstPlace (ltb 2) w) (length w) e, eqb-true (length w) (2 ^ n) (not-false _ l), size-low n h))),
                 λ _. (
                   λ _. refl,
                   λ _. (

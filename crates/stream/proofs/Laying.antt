@@ -146,9 +146,9 @@ laid-long size b lb low =
 -- ---- a record
 
 -- a word is no wider than a strip
-pub size-low : (n size : ℕ) → n ≤ largestN → size ≡ 2 ^ n → size ≤ stripWidth
+pub word-fits : (n size : ℕ) → n ≤ largestN → size ≡ 2 ^ n → size ≤ stripWidth
 unfolding largestN stripWidth
-size-low n size h e = omega (arith, pow-mono h)
+word-fits n size h e = omega (arith, pow-mono h)
 
 pub put-room : (s o : List ℕ) (k : ℕ) → length o ≡ k + length s → length s ≤ length (take (length o - k) (drop k o))
 put-room s o k e = simp (length-take, length-drop) (omega arith)

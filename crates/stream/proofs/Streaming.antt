@@ -26,7 +26,7 @@ use Rattle.meaning.specs.declared.Answer.{Answer}
 use Rattle.meaning.specs.declared.Answer.the-variants.{Done, BadShape, BadCheck, ShortOutput}
 use Rattle.stream.specs.Laying.{laid}
 use Rattle.stream.proofs.Fitting.{keeps-length}
-use Rattle.stream.proofs.Laying.{header-long, laid-long, recorded, size-low}
+use Rattle.stream.proofs.Laying.{header-long, laid-long, recorded, word-fits}
 use Rattle.stream.proofs.Counting.{records-shape, records-choice, records-words, counted}
 
 -- the record of word i
@@ -42,7 +42,7 @@ record-long n s r c w h =
     let a : Reply = decoding n s r c w f in
     let l : length (a .bytes) ≡ 3 * 2 ^ n = keeps-length n s r c w f ∙ length-replicate (3 * 2 ^ n) 255 in
     ap length (sym (recorded n s r c w f (a .bytes) (a .answer) refl refl (2 ^ n) refl))
-    ∙ length-append (header (a .answer)) (laid (2 ^ n) (a .bytes)) ∙ ap₂ _+_ (header-long (a .answer)) (laid-long (2 ^ n) (a .bytes) l (size-low n (2 ^ n) h refl))
+    ∙ length-append (header (a .answer)) (laid (2 ^ n) (a .bytes)) ∙ ap₂ _+_ (header-long (a .answer)) (laid-long (2 ^ n) (a .bytes) l (word-fits n (2 ^ n) h refl))
 
 pub refused-long : (a : Answer) → length (refusedRecord a) ≡ answerBytes
 unfolding refusedRecord answerBytes

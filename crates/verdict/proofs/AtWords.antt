@@ -29,7 +29,7 @@ use Rattle.model.specs.Related.{Along, nil, cons, Bound}
 use Rattle.model.proofs.Relate.{Graph, along-map, run-bound, system-bound}
 use Rattle.model.proofs.Steps.{run-unknowns}
 use Rattle.model.proofs.Exact.{exact}
-use Rattle.descent.specs.Values.{rowValues}
+use Rattle.ruling.specs.Values.{rowValues}
 use Rattle.verdict.specs.Reading.{constant}
 use Rattle.verdict.proofs.Listing.{map-filter}
 use Rattle.verdict.proofs.OneBit.{has-nought, has-same, has-other, unit-row, dot-nought, dot-unknown, lead-within}

@@ -25,7 +25,7 @@ use Rattle.gf2.specs.Solve.{lead}
 use Rattle.gf2.specs.System.{dot}
 use Rattle.gf2.proofs.Leads.{lead-holds, lead-le}
 use Rattle.gf2.proofs.Fill.{dot-none}
-use Rattle.descent.specs.Values.{noughtRow, unitRow, unknownRow}
+use Rattle.ruling.specs.Values.{noughtRow, unitRow, unknownRow}
 
 -- ---- the bits of a power of 2
 

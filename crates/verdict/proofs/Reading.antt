@@ -11,7 +11,7 @@ use Rattle.meaning.specs.Codewords.{candidates}
 use Rattle.meaning.specs.Open.{unknowns}
 use Rattle.meaning.specs.Sheet.{ruleAt, rules, early}
 use Rattle.model.specs.Model.{run, system}
-use Rattle.descent.specs.Values.{rowValues}
+use Rattle.ruling.specs.Values.{rowValues}
 use Rattle.descent.proofs.Promise.{found-sizes}
 use Rattle.verdict.specs.Reading.{rowVerdict}
 use Rattle.verdict.proofs.AtWords.{candidates-listed, system-within, block-within}

@@ -2,14 +2,14 @@ use mathlib.Core.Path.{ap}
 use Prim.Native.Nat.{_-_, _≤_}
 use lib.ListN.{length}
 use Rattle.meaning.specs.Limits.{stripWidth}
-use Rattle.stream.proofs.Laying.{size-low, part-blank}
+use Rattle.stream.proofs.Laying.{word-fits, part-blank}
 use borrow.Author.Needs.{needs}
 use native.Mathlib.Omega.{arith}
 use Rattle.stream.proofs.record.answer.Statement.{statement}
 use Rattle.stream.proofs.record.answer.Tie as tie
 
 low-at : (c : tie.After-size-of) → c .size-of .result ≤ stripWidth
-low-at c = size-low (c .before .before .before .before .before .before .args .n) _ (c .before .before .before .before .before .before .pre .0) (c .size-of .ensures)
+low-at c = word-fits (c .before .before .before .before .before .before .args .n) _ (c .before .before .before .before .before .before .pre .0) (c .size-of .ensures)
 
 blank-requires : tie.Need-blank-requires
 blank-requires c κs = search needs

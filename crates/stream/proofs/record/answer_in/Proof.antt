@@ -4,7 +4,7 @@ use Prim.Native.Nat.{ℕ, _*_, _≤_}
 use lib.ListN.{length}
 use Rattle.meaning.specs.Limits.{stripWidth}
 use Rattle.meaning.specs.Stream.{header}
-use Rattle.stream.proofs.Laying.{size-low, laid-long, answered-small, answered-long, recorded}
+use Rattle.stream.proofs.Laying.{word-fits, laid-long, answered-small, answered-long, recorded}
 use borrow.Author.Needs.{needs}
 use Rattle.stream.proofs.record.answer_in.Statement.{statement}
 use Rattle.stream.proofs.record.answer_in.Tie as tie
@@ -17,7 +17,7 @@ found-long c =
     let A = start .args in
     let e = c .size-of .ensures in (
       answered-long (A .n) (A .sheet .now) (A .r) (A .ceiling) (A .word .now) (A .found .now) _ _ (decode .decode .ensures) (start .pre .1) ∙ ap (λ (k : ℕ). 3 * k) (sym e),
-      size-low (A .n) _ (start .pre .0) e,
+      word-fits (A .n) _ (start .pre .0) e,
     )
 
 decode-requires : tie.Need-decode-requires
