@@ -1,4 +1,4 @@
--- The fault of form that a call is refused for, of the rows 11 to 16 of its table the first that applies; Done where none does.
+-- The fault of form that a call is refused for, of the rows of its table the first that applies; Done where none does.
 --     encodeFault    a payload of K - r bits, and room for N symbols
 --     readFault      a word of N symbols, and room for K - r bits
 use Prim.Native.Nat.{ℕ, _-_, _^_}

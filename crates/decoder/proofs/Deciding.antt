@@ -1,4 +1,4 @@
--- The refusals 11 to 17, and decoding where one applies and where none does.
+-- The faults of form, and decoding where one applies and where none does.
 --     fault-sheet, fault-word, fault-ceiling, fault-none     the fault of form, test by test
 --     decode-refused                                         decoding is refused for it
 --     form-none, decode-formed                               nothing is refused: what is left to decide

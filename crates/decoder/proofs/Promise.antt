@@ -1,5 +1,5 @@
 -- The archivist's demands, of any result that decode's promise allows: the answer a, and the bytes x of the buffer after the call.
--- Standing premise: no refusal from 11 to 17 applies.
+-- Standing premise: no fault of form, and room to answer, so that no refusal but 18 applies; the sheet has K at least 1.
 --     refused-for-size                      18 exactly when g passes the ceiling
 --     one-agrees, none-agrees, some-agree   demand 2: unique, inconsistent, ambiguous of dimension d
 --     written-strips                        the strips: settled, first, last; later bytes as found

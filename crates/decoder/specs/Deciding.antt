@@ -1,9 +1,9 @@
 -- Decoding, part by part.
---     decodeFault    the fault of form that it is refused for: of 11 to 17 the first that applies, Done where none does
+--     decodeFault    the fault of form that it is refused for: the first that applies, Done where none does
 --     deciding       what is left once no fault of form is found: too many unknowns, or the verdict
 --     systemRows     the equations of a descent, then those of the check
 --     Settling       what the last step needs of a descent
---     Formed         no fault of form: what the refusals 11 to 17 leave
+--     Formed         no fault of form: what these refusals leave
 use mathlib.Core.Path.{_≡_}
 use mathlib.Core.Logic.{_⊎_}
 use Prim.Native.Nat.{ℕ, _+_, _*_, _^_, _≤_}

@@ -93,7 +93,7 @@ fn decide(
 // Says what can be known of a word of N symbols: 0, 1, or 2 where the symbol is erased.
 // Answers Unique (0), Ambiguous (1) or Inconsistent (2), with g unknowns, m equations and dimension d. Unique and Ambiguous
 // write 3N bytes: the settled strip (2 where candidates differ), the first candidate and the last; later bytes are as found.
-// Refuses by 11 to 18 (form::check_sheet; 14: the word is not N long; 15: the first symbol above 2; 16: the output is shorter
+// Refuses (as form::check_sheet; 14: the word is not N long; 15: the first symbol above 2; 16: the output is shorter
 // than 3N; 17: the ceiling is above 63; 18: g is above the ceiling). Inconsistent and refusals leave the output as found.
 pub fn decode(
     n: usize,

@@ -11,7 +11,7 @@ use Rattle.meaning.specs.Limits.{largestN, recordBytes}
 use Rattle.meaning.specs.Sheet.{fine, ruleAt, rules, badRecord, frees}
 use Rattle.meaning.specs.Answers.{badShape, badCheck, sheetRefusals, checking}
 use Rattle.form.proofs.Records.{records-in}
-use Rattle.meaning.specs.declared.Answer.the-variants.{Done, BadShape, BadRecord, BadCheck}
+use Rattle.meaning.specs.declared.Answer.the-variants.{Done, BadShape, BadRecord, HoldsNothing, BadCheck}
 
 pub too-large : (n : ℕ) (s : List ℕ) (r : ℕ) → largestN < n → BadShape ≡ checking n s r
 unfolding checking sheetRefusals badShape
@@ -34,15 +34,20 @@ module _ (n : ℕ) (s : List ℕ) (r size : ℕ) (h : n ≤ largestN) (e : size 
     unfolding checking sheetRefusals badShape
     bad-record b = rw (le-ltb largestN n h, eq-eqb (length s) (2 ^ n * recordBytes) long, ← first, ← e, lt-ltb place size b)
 
-    module _ (q : size ≤ place) (k : ℕ) (f : k ≡ frees (tab (length s / recordBytes) (ruleAt s))) (b : Bool) (c : b ≡ badCheck r k) where
-      check : badCheck r (frees (rules n s)) ≡ b
+    module _ (q : size ≤ place) (k : ℕ) (f : k ≡ frees (tab (length s / recordBytes) (ruleAt s))) where
+      count : frees (rules n s) ≡ k
       unfolding rules
-      check = sym (c ∙ ap (badCheck r) (f ∙ ap (λ (m : ℕ). frees (tab m (ruleAt s))) (records-in (length s) size l ∙ e)))
+      count = sym (f ∙ ap (λ (m : ℕ). frees (tab m (ruleAt s))) (records-in (length s) size l ∙ e))
 
-      pub bad-check : b ≡ true → BadCheck ≡ checking n s r
+      pub holds-nothing : k ≡ 0 → HoldsNothing ≡ checking n s r
       unfolding checking sheetRefusals badShape
-      bad-check t = rw (le-ltb largestN n h, eq-eqb (length s) (2 ^ n * recordBytes) long, ← first, ← e, le-ltb place size q, check, t)
+      holds-nothing z = rw (le-ltb largestN n h, eq-eqb (length s) (2 ^ n * recordBytes) long, ← first, ← e, le-ltb place size q, count, eq-eqb k 0 z)
 
-      pub done : b ≡ false → Done ≡ checking n s r
-      unfolding checking sheetRefusals badShape
-      done t = rw (le-ltb largestN n h, eq-eqb (length s) (2 ^ n * recordBytes) long, ← first, ← e, le-ltb place size q, check, t)
+      module _ (some : k ≡ 0 → ⊥) (b : Bool) (c : b ≡ badCheck r k) where
+        pub bad-check : b ≡ true → BadCheck ≡ checking n s r
+        unfolding checking sheetRefusals badShape
+        bad-check t = rw (le-ltb largestN n h, eq-eqb (length s) (2 ^ n * recordBytes) long, ← first, ← e, le-ltb place size q, count, ne-eqb k 0 some, ← c, t)
+
+        pub done : b ≡ false → Done ≡ checking n s r
+        unfolding checking sheetRefusals badShape
+        done t = rw (le-ltb largestN n h, eq-eqb (length s) (2 ^ n * recordBytes) long, ← first, ← e, le-ltb place size q, count, ne-eqb k 0 some, ← c, t)

@@ -16,7 +16,8 @@ use meaning::limits;
 
 // Checks a sheet of N = 2 to the n records, with its check length r.
 // Answers Done, or BadShape (11: n above 7, or not 20N bytes), BadRecord (12: the place of the first record that breaks
-// any rule), BadCheck (13: r not 0, 6 or 11, or r above 0 and no more than r free positions); the first that applies.
+// any rule), HoldsNothing (19: no free position), BadCheck (13: r not 0, 6 or 11, or r above 0 and no more than r free
+// positions); the first that applies.
 pub fn check_sheet(n: usize, sheet: &[u8], r: usize) -> Answer
     ensures { λ a. ⌜ a ≡ checking n (now (sheet .entry)) r ⌝ }
 {
@@ -32,6 +33,9 @@ pub fn check_sheet(n: usize, sheet: &[u8], r: usize) -> Answer
         return Answer::BadRecord { place };
     }
     let k = count_free(sheet);
+    if k == 0 {
+        return Answer::HoldsNothing;
+    }
     if sheet::bad_check(r, k) {
         return Answer::BadCheck;
     }

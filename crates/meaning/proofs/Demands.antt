@@ -1,5 +1,5 @@
 -- The archivist's demands 2 and 3, of `decoding`, the definition that decode's promise cites.
--- Standing premise: the word has no fault of form and there is room to answer, so no refusal from 11 to 17 applies.
+-- Standing premise: no fault of form, and room to answer, so that no refusal but 18 applies; the sheet has K at least 1.
 --     over-iff             18 exactly when g passes the ceiling
 --     unique-iff           unique exactly when one codeword agrees
 --     inconsistent-iff     inconsistent exactly when none does

@@ -1,11 +1,11 @@
 -- What is known where a table's rows do not apply.
---     Good, good           a sheet that no refusal from 11 to 13 meets
+--     Good, good           a sheet that none of 11, 12, 19, 13 meets
 --     Worded, worded       a word, and room for the answer, that no refusal from 14 to 16 meets
 --     checked-none, worded-none     none applies where checking answers done
 --     bits-back            symbols up to 1 are bits
 use mathlib.Core.Path.{_≡_, refl, sym, ap, _∙_}
 use mathlib.Core.Logic.{_⊎_, inl, inr}
-use Prim.Native.Nat.{ℕ, zero, suc, _*_, _^_, _≤_}
+use Prim.Native.Nat.{ℕ, zero, suc, _*_, _^_, _≤_, _<_}
 use native.Mathlib.Omega.{arith}
 use mathlib.Core.Bool.{Bool, true, false, _&&_, _||_, not, true≢false}
 use mathlib.Core.List.{List, [], _∷_, map}
@@ -27,6 +27,7 @@ pub record Good (n : ℕ) (s : List ℕ) (r : ℕ) : Type 0 where
   pub long : length s ≡ 2 ^ n * recordBytes
   pub sound : ltb (badRecord n s) (2 ^ n) ≡ false
   pub ordered : early 0 (rules n s) ≡ true
+  pub holding : r < frees (rules n s)
   pub check : (r ≡ 0) ⊎ ((r ≡ 6) ⊎ (r ≡ 11))
   pub roomy : r ≤ frees (rules n s)
 
@@ -41,11 +42,16 @@ check-length r k h =
     go false false true p q s e = inr (inr (eqb-true r 11 s))
     go false false false p q s e = absurd (true≢false e)
 
-check-room : (r k : ℕ) → badCheck r k ≡ false → r ≤ k
+some-free : (k : ℕ) → eqb k 0 ≡ false → 1 ≤ k
+some-free zero h = absurd (true≢false h)
+some-free (suc k) h = omega arith
+
+-- K is at least 1, and the check leaves room for a payload
+check-room : (r k : ℕ) → 1 ≤ k → badCheck r k ≡ false → r < k
 unfolding badCheck
-check-room r k h = go (ltb 0 r) refl (or-false-r (not (eqb r 0 || eqb r 6 || eqb r 11)) _ h)
+check-room r k l h = go (ltb 0 r) refl (or-false-r (not (eqb r 0 || eqb r 6 || eqb r 11)) _ h)
   where
-    go : (b : Bool) → ltb 0 r ≡ b → b && leb k r ≡ false → r ≤ k
+    go : (b : Bool) → ltb 0 r ≡ b → b && leb k r ≡ false → r < k
     go true e q = omega (arith, leb-false k r q)
     go false e q = omega (arith, ltb-false 0 r e)
 
@@ -55,14 +61,18 @@ good n s r h =
     let shape = or-false-l (badShape n s) _ h in
     let rest = or-false-r (badShape n s) _ h in
     let sound : ltb (badRecord n s) (2 ^ n) ≡ false = or-false-l (ltb (badRecord n s) (2 ^ n)) _ rest in
-    let check : badCheck r (frees (rules n s)) ≡ false = or-false-l (badCheck r (frees (rules n s))) _ (or-false-r (ltb (badRecord n s) (2 ^ n)) _ rest) in
+    let last = or-false-r (ltb (badRecord n s) (2 ^ n)) _ rest in
+    let some : eqb (frees (rules n s)) 0 ≡ false = or-false-l (eqb (frees (rules n s)) 0) _ last in
+    let check : badCheck r (frees (rules n s)) ≡ false = or-false-l (badCheck r (frees (rules n s))) _ (or-false-r (eqb (frees (rules n s)) 0) _ last) in
+    let holding : r < frees (rules n s) = check-room r (frees (rules n s)) (some-free (frees (rules n s)) some) check in
     record {
       small = ltb-false largestN n (or-false-l (ltb largestN n) _ shape);
       long = eqb-true (length s) (2 ^ n * recordBytes) (not-false _ (or-false-r (ltb largestN n) _ shape));
       sound = sound;
       ordered = rules-early n s sound;
+      holding = holding;
       check = check-length r (frees (rules n s)) check;
-      roomy = check-room r (frees (rules n s)) check;
+      roomy = omega (arith, holding);
     }
 
 -- a sheet that checking calls done

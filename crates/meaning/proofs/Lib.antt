@@ -11,6 +11,7 @@
 --     Refusals, Forms           tables of refusals; what is known where none applies
 --     Demands                   demands 2 and 3 of `decoding`
 --     ReadBack                  encoding and read-back; the round trip
+--     Holding                   a sheet that holds nothing is refused; any other that passes holds something
 --     Determined                a promise allows one result; what is refused leaves the buffer as found
 --     Bench                     the starred examples
 pub mod Polar
@@ -31,5 +32,6 @@ pub mod Refusals
 pub mod Forms
 pub mod Demands
 pub mod ReadBack
+pub mod Holding
 pub mod Determined
 pub mod Bench

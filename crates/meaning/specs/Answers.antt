@@ -19,7 +19,7 @@ use Rattle.meaning.specs.Codewords.{candidates, payloadOf, carrying}
 use Rattle.meaning.specs.Open.{unknowns, equations}
 use Rattle.meaning.specs.Strips.{first, strips, dimension}
 use Rattle.meaning.specs.declared.Answer.{Answer}
-use Rattle.meaning.specs.declared.Answer.the-variants.{Done, Unique, Ambiguous, Inconsistent, BadShape, BadRecord, BadCheck, BadLength, BadSymbol, ShortOutput, BadCeiling, TooMany}
+use Rattle.meaning.specs.declared.Answer.the-variants.{Done, Unique, Ambiguous, Inconsistent, BadShape, BadRecord, BadCheck, BadLength, BadSymbol, ShortOutput, BadCeiling, TooMany, HoldsNothing}
 
 -- ---- the numbers of each answer
 
@@ -37,6 +37,7 @@ numbersOf (BadSymbol i) = 15 ∷ i ∷ 0 ∷ 0 ∷ 0 ∷ []
 numbersOf ShortOutput = 16 ∷ 0 ∷ 0 ∷ 0 ∷ 0 ∷ []
 numbersOf BadCeiling = 17 ∷ 0 ∷ 0 ∷ 0 ∷ 0 ∷ []
 numbersOf (TooMany g) = 18 ∷ 0 ∷ g ∷ 0 ∷ 0 ∷ []
+numbersOf HoldsNothing = 19 ∷ 0 ∷ 0 ∷ 0 ∷ 0 ∷ []
 
 -- whether a call can go on
 abbrev pub isDone : Answer → Bool
@@ -52,6 +53,7 @@ isDone (BadSymbol i) = false
 isDone ShortOutput = false
 isDone BadCeiling = false
 isDone (TooMany g) = false
+isDone HoldsNothing = false
 
 -- ---- refusals
 
@@ -81,11 +83,12 @@ badShape n s = ltb largestN n || not (eqb (length s) (2 ^ n * recordBytes))
 unfoldable pub badCheck : ℕ → ℕ → Bool
 badCheck r k = not (eqb r 0 || eqb r 6 || eqb r 11) || (ltb 0 r && leb k r)
 
--- the sheet's faults, in every call: 11, 12, 13
+-- the sheet's faults, in every call: 11, 12, 19 (no free position), 13
 unfoldable pub sheetRefusals : ℕ → List ℕ → ℕ → List Refusal
 sheetRefusals n s r =
     (badShape n s ⇒ BadShape)
     ∷ (ltb (badRecord n s) (2 ^ n) ⇒ BadRecord (badRecord n s))
+    ∷ (eqb (frees (rules n s)) 0 ⇒ HoldsNothing)
     ∷ (badCheck r (frees (rules n s)) ⇒ BadCheck)
     ∷ []
 
@@ -122,7 +125,7 @@ leaving out a = record { answer = a; bytes = out }
 abbrev pub writing : List ℕ → List ℕ → Answer → Reply
 writing new out a = record { answer = a; bytes = new ++ drop (length new) out }
 
--- encoding uses 11 to 16, needs N bytes, answers 0 and writes N symbols
+-- encoding has the sheet's faults and 14 to 16, needs N bytes, answers 0 and writes N symbols
 unfoldable pub encodeRefusals : ℕ → List ℕ → ℕ → List ℕ → List ℕ → List Refusal
 encodeRefusals n s r p out = sheetRefusals n s r ++ wordRefusals (frees (rules n s) - r) 1 (2 ^ n) p (length out)
 
@@ -133,7 +136,7 @@ isOne b = eqb b 1
 unfoldable pub encoding : ℕ → List ℕ → ℕ → List ℕ → List ℕ → Reply
 encoding n s r p out = firstOf (leaving out) (encodeRefusals n s r p out) (writing (first (carrying n (rules n s) r (map isOne p))) out Done)
 
--- read-back uses 11 to 16, needs K - r bytes, answers 0 with the payload or 2 where the word isn't a codeword
+-- read-back has the sheet's faults and 14 to 16, needs K - r bytes, answers 0 with the payload or 2 where the word isn't a codeword
 unfoldable pub readRefusals : ℕ → List ℕ → ℕ → List ℕ → List ℕ → List Refusal
 readRefusals n s r w out = sheetRefusals n s r ++ wordRefusals (2 ^ n) 1 (frees (rules n s) - r) w (length out)
 
@@ -145,11 +148,11 @@ payloadRead n ks r (x ∷ cs) out = writing (map bit (payloadOf n ks r x)) out D
 unfoldable pub readingBack : ℕ → List ℕ → ℕ → List ℕ → List ℕ → Reply
 readingBack n s r w out = firstOf (leaving out) (readRefusals n s r w out) (payloadRead n (rules n s) r (candidates n (rules n s) r w) out)
 
--- decoding needs 3N bytes. 11 to 17: a fault of form, or no room to answer
+-- decoding needs 3N bytes. The sheet's faults and 14 to 17: a fault of form, or no room to answer
 unfoldable pub formRefusals : ℕ → List ℕ → ℕ → ℕ → List ℕ → List ℕ → List Refusal
 formRefusals n s r c w out = sheetRefusals n s r ++ wordRefusals (2 ^ n) 2 (3 * 2 ^ n) w (length out) ++ ((ltb largestCeiling c ⇒ BadCeiling) ∷ [])
 
--- 11 to 18: then g above the ceiling
+-- then 18: g above the ceiling
 unfoldable pub decodeRefusals : ℕ → List ℕ → ℕ → ℕ → List ℕ → List ℕ → List Refusal
 decodeRefusals n s r c w out = let g = unknowns n (rules n s) w in formRefusals n s r c w out ++ ((ltb c g ⇒ TooMany g) ∷ [])
 

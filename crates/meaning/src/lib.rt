@@ -30,6 +30,8 @@ pub enum Answer {
     BadCeiling,
     // 18: there are more unknowns than the ceiling allows.
     TooMany { g: usize },
+    // 19: the sheet has no free position, so that it holds nothing. Told after 12 and before 13.
+    HoldsNothing,
 }
 
 // The five numbers of an answer: code, place, unknowns g, equations m, dimension d.
@@ -49,6 +51,7 @@ pub fn numbers(a: Answer) -> [usize; 5]
         Answer::ShortOutput => [16, 0, 0, 0, 0],
         Answer::BadCeiling => [17, 0, 0, 0, 0],
         Answer::TooMany { g } => [18, 0, g, 0, 0],
+        Answer::HoldsNothing => [19, 0, 0, 0, 0],
     }
 }
 
@@ -69,5 +72,6 @@ pub fn is_done(a: Answer) -> bool
         Answer::ShortOutput => false,
         Answer::BadCeiling => false,
         Answer::TooMany { g: _ } => false,
+        Answer::HoldsNothing => false,
     }
 }

@@ -47,6 +47,7 @@ fn refusal(code: u8, place: u8, g: u8) -> bool {
         16 => text::say(b"refused 16    the output is too short"),
         17 => text::say(b"refused 17    the ceiling is above 63"),
         18 => too_many(g),
+        19 => text::say(b"refused 19    the sheet has no free position: it holds nothing"),
         _ => at(b"code ", code, b" is no answer's"),
     }
 }

@@ -42,7 +42,7 @@ pub fn counted(before: Tally, code: u8) -> Tally {
         2 => {
             t.inconsistent = more(t.inconsistent);
         }
-        11 | 12 | 13 | 14 | 15 | 16 | 17 | 18 => {
+        11 | 12 | 13 | 14 | 15 | 16 | 17 | 18 | 19 => {
             t.refused = more(t.refused);
         }
         _ => {

@@ -8,7 +8,7 @@ use mathlib.Core.Logic.{_⊎_, inl, inr}
 use Prim.Native.Nat.{ℕ, _+_, _-_, _*_, _^_, _≤_, _<_}
 use native.Mathlib.Omega.{arith}
 use mathlib.Core.Bool.{Bool, true, false}
-use mathlib.Core.List.{List, [], _∷_, map, List·Memᴰ, List·Memᴰ·head, List·Memᴰ·tail}
+use mathlib.Core.List.{List, [], _∷_, _++_, map, List·Memᴰ, List·Memᴰ·head, List·Memᴰ·tail}
 use lib.ListN.{length, length-append, length-drop, length-map}
 use lib.Dec.{ltb}
 use borrow.Author.Tests.{ltb-true, ltb-false, lt-ltb, eqb-true, not-false}
@@ -19,15 +19,16 @@ use Rattle.meaning.specs.Sheet.{Rule, free, frozen, rules, badRecord}
 use Rattle.meaning.specs.Codewords.{candidates}
 use Rattle.meaning.specs.Open.{openFree, closedFrozen, openAll, unknowns, equations}
 use Rattle.meaning.specs.Strips.{settledAt, settled, last, strips, dimension}
-use Rattle.meaning.specs.Answers.{Refusal, firstOf, Reply, leaving, numbersOf, sheetRefusals, wordRefusals, formRefusals, decodeRefusals, verdict, decoding}
+use Rattle.meaning.specs.Answers.{Refusal, firstOf, refuses, Reply, leaving, numbersOf, sheetRefusals, wordRefusals, formRefusals, decodeRefusals, verdict, decoding}
 use Rattle.meaning.specs.declared.Answer.{Answer}
-use Rattle.meaning.specs.declared.Answer.the-variants.{Done, Unique, Ambiguous, Inconsistent, BadShape, BadRecord, BadCheck, BadLength, BadSymbol, ShortOutput, BadCeiling, TooMany}
+use Rattle.meaning.specs.declared.Answer.the-variants.{Done, Unique, Ambiguous, Inconsistent, BadShape, BadRecord, BadCheck, BadLength, BadSymbol, ShortOutput, BadCeiling, TooMany, HoldsNothing}
 use Rattle.meaning.proofs.Sound.{length-rules}
 use Rattle.meaning.proofs.Candidates.{candidate}
 use Rattle.meaning.proofs.Polar.{length-polar}
 use Rattle.meaning.proofs.Dimension.{dimension-is}
 use Rattle.meaning.proofs.Gap.{d-le-g}
-use Rattle.meaning.proofs.Forms.{Good, good}
+use Rattle.meaning.proofs.Refusals.{first-none, none-append, refused-untouched}
+use Rattle.meaning.proofs.Forms.{Good, good, worded}
 use Rattle.stream.specs.Laying.{small, Small}
 use Rattle.stream.proofs.Counting.{size-low}
 
@@ -71,33 +72,19 @@ verdict-long n g m (x ∷ []) out f h = let l = strips-long n x [] f in simp (le
 verdict-long n g m (x ∷ y ∷ cs) out f h = let l = strips-long n x (y ∷ cs) f in simp (length-append, length-drop) (omega (arith, l))
 
 pub keeps-length : (n : ℕ) (s : List ℕ) (r c : ℕ) (w out : List ℕ) → length ((decoding n s r c w out) .bytes) ≡ length out
-unfolding decoding decodeRefusals formRefusals sheetRefusals wordRefusals
-keeps-length n s r c w out =
-    by-rows (λ (a : Reply). length (a .bytes) ≡ length out) out (verdict n _ _ (candidates n (rules n s) r w) out) (decodeRefusals n s r c w out) (
-      λ _. refl,
-      λ _. (
-        λ _. refl,
-        λ _. (
-          λ _. refl,
-          λ _. (
-            λ _. refl,
-            λ _. (
-              λ _. refl,
-              λ _. (
-                λ _. refl,
-                λ e. (
-                  λ _. refl,
-                  λ _. (
-                    λ _. refl,
-                    λ _. verdict-long n _ _ (candidates n (rules n s) r w) out (candidate-long n (rules n s) r w) (ltb-false (length out) (3 * 2 ^ n) e),
-                  ),
-                ),
-              ),
-            ),
-          ),
-        ),
-      ),
-    )
+unfolding decoding decodeRefusals formRefusals
+keeps-length n s r c w out = go (refuses (decodeRefusals n s r c w out)) refl
+  where
+    cs : List (List Bool)
+    cs = candidates n (rules n s) r w
+
+    go : (b : Bool) → refuses (decodeRefusals n s r c w out) ≡ b → length ((decoding n s r c w out) .bytes) ≡ length out
+    go true e = ap length (refused-untouched out (decodeRefusals n s r c w out) _ e)
+    go false e =
+        let form = none-append (sheetRefusals n s r ++ wordRefusals (2 ^ n) 2 (3 * 2 ^ n) w (length out)) _ (none-append (formRefusals n s r c w out) _ e .0) .0 in
+        let word = none-append (sheetRefusals n s r) _ form .1 in
+        ap (λ (a : Reply). length (a .bytes)) (first-none (leaving out) (decodeRefusals n s r c w out) _ e)
+        ∙ verdict-long n _ _ cs out (candidate-long n (rules n s) r w) (worded _ _ _ w (length out) word .roomy)
 
 -- ---- the numbers
 
@@ -114,6 +101,7 @@ numbers-five (BadSymbol i) = refl
 numbers-five ShortOutput = refl
 numbers-five BadCeiling = refl
 numbers-five (TooMany g) = refl
+numbers-five HoldsNothing = refl
 
 open-few : (ks : List Rule) (o : List Bool) → ones (openFree ks o) ≤ length ks
 open-few [] o = omega arith
@@ -165,17 +153,20 @@ module _ (n : ℕ) (h : n ≤ largestN) where
           λ e. rw (lt-ltb (badRecord n s) 256 (omega (arith, ltb-true (badRecord n s) (2 ^ n) e, size-low n h))),
           λ b. (
             λ _. refl,
-            λ d. (
+            λ k. (
               λ _. refl,
-              λ l. (
-                λ e. rw (lt-ltb (firstPlace (ltb 2) w) 256 (omega (arith, ltb-true (firstPlace (ltb 2) w) (length w) e, eqb-true (length w) (2 ^ n) (not-false _ l), size-low n h))),
-                λ _. (
-                  λ _. refl,
+              λ d. (
+                λ _. refl,
+                λ l. (
+                  λ e. rw (lt-ltb (firstPlace (ltb 2) w) 256 (omega (arith, ltb-true (firstPlace (ltb 2) w) (length w) e, eqb-true (length w) (2 ^ n) (not-false _ l), size-low n h))),
                   λ _. (
                     λ _. refl,
                     λ _. (
-                      λ _. rw (lt-ltb (unknowns n (rules n s) w) 256 (unknowns-few s w)),
-                      λ _. verdict-small s w out r (good n s r (rw (a, b, d))) (candidates n (rules n s) r w) refl,
+                      λ _. refl,
+                      λ _. (
+                        λ _. rw (lt-ltb (unknowns n (rules n s) w) 256 (unknowns-few s w)),
+                        λ _. verdict-small s w out r (good n s r (rw (a, b, k, d))) (candidates n (rules n s) r w) refl,
+                      ),
                     ),
                   ),
                 ),

@@ -117,7 +117,8 @@ fn write(sheet: &[u8], choice: &[u8], input: &[u8], k: usize, out: &mut [u8])
 // Answers a whole input: word k is what stands from byte kN on, N symbols or as many as are left, and its record stands at
 // byte 392k of the output: code, place, g, m, d, three zeros, then three strips of 128 bytes, the places past N filled with
 // 255. Where decoding leaves its output untouched, all of the strips is 255. A cut-off last word has its record too.
-// Where the sheet is not 20N bytes long there is one record, of code 11; else, where the choice is not two bytes, one of 13.
+// Where the sheet is not 20N bytes long there is one record, of code 11; else, where the choice is not two bytes, one of 13,
+// whatever the sheet holds.
 // Answers Done, later bytes as found; or ShortOutput (16), before all else, where the output is too short for the records,
 // and leaves it as found.
 pub fn answer(sheet: &[u8], choice: &[u8], input: &[u8], out: &mut [u8]) -> Answer

@@ -2,7 +2,7 @@ use native.Mathlib.Omega.{arith}
 use lib.Pow.{pow-mono}
 use borrow.Author.Needs.{needs}
 use Rattle.meaning.specs.Limits.{largestN, recordBytes, maskBytes}
-use Rattle.form.proofs.Checking.{too-large, not-long, bad-record, bad-check, done}
+use Rattle.form.proofs.Checking.{too-large, not-long, bad-record, holds-nothing, bad-check, done}
 use Rattle.form.proofs.check_sheet.Statement.{statement}
 use Rattle.form.proofs.check_sheet.Tie as tie
 
@@ -36,26 +36,37 @@ returns-3 c =
 count-free-requires : tie.Need-count-free-requires
 count-free-requires c κs = search needs
 
-bad-check-requires : tie.Need-bad-check-requires
-bad-check-requires c κs = search needs
-
 returns-4 : tie.Need-returns-4
 unfolding largestN recordBytes maskBytes
 returns-4 c =
-    let count = c .before .before in
+    let count = c .before in
     let call = count .before .before in
     let size = call .before .before in
-    bad-check _ _ _ _ (size .before .if1 .left) (size .size-of .ensures) (call .before .if2 .left) _ (call .first-bad .ensures) (count .before .if3 .left)
-    _ (count .count-free .ensures) _ (c .before .bad-check .ensures) (c .if4 .taken)
+    holds-nothing _ _ _ _ (size .before .if1 .left) (size .size-of .ensures) (call .before .if2 .left) _ (call .first-bad .ensures) (count .before .if3 .left)
+    _ (count .count-free .ensures) (c .if4 .taken)
+
+bad-check-requires : tie.Need-bad-check-requires
+bad-check-requires c κs = search needs
 
 returns-5 : tie.Need-returns-5
 unfolding largestN recordBytes maskBytes
 returns-5 c =
-    let count = c .before .before in
+    let some = c .before .before in
+    let count = some .before in
+    let call = count .before .before in
+    let size = call .before .before in
+    bad-check _ _ _ _ (size .before .if1 .left) (size .size-of .ensures) (call .before .if2 .left) _ (call .first-bad .ensures) (count .before .if3 .left)
+    _ (count .count-free .ensures) (some .if4 .left) _ (c .before .bad-check .ensures) (c .if5 .taken)
+
+returns-6 : tie.Need-returns-6
+unfolding largestN recordBytes maskBytes
+returns-6 c =
+    let some = c .before .before in
+    let count = some .before in
     let call = count .before .before in
     let size = call .before .before in
     done _ _ _ _ (size .before .if1 .left) (size .size-of .ensures) (call .before .if2 .left) _ (call .first-bad .ensures) (count .before .if3 .left)
-    _ (count .count-free .ensures) _ (c .before .bad-check .ensures) (c .if4 .left)
+    _ (count .count-free .ensures) (some .if4 .left) _ (c .before .bad-check .ensures) (c .if5 .left)
 
 pub check-sheet-spec : {M : Type 1} → statement M
 check-sheet-spec =
@@ -68,6 +79,7 @@ check-sheet-spec =
     first-bad-requires
     returns-3
     count-free-requires
-    bad-check-requires
     returns-4
-    returns-5)
+    bad-check-requires
+    returns-5
+    returns-6)

@@ -41,6 +41,9 @@ enum-told-6 c = search needs
 enum-known-a-6 : tie.Need-enum-known-a-6
 enum-known-a-6 c = search needs
 
+enum-told-7 : tie.Need-enum-told-7
+enum-told-7 c = search needs
+
 returns : tie.Need-returns
 returns c = search needs
 
@@ -77,6 +80,9 @@ returns-11 c = search needs
 returns-12 : tie.Need-returns-12
 returns-12 c = sym (ap numbersOf (c .before .a6 .given .1))
 
+returns-13 : tie.Need-returns-13
+returns-13 c = search needs
+
 pub numbers-spec : {M : Type 1} → statement M
 numbers-spec =
     tie.close
@@ -93,6 +99,7 @@ numbers-spec =
     enum-told-5
     enum-told-6
     enum-known-a-6
+    enum-told-7
     returns
     returns-2
     returns-3
@@ -104,4 +111,5 @@ numbers-spec =
     returns-9
     returns-10
     returns-11
-    returns-12)
+    returns-12
+    returns-13)
