@@ -1,6 +1,15 @@
 // The five numbers of an answer: code, place, unknowns g, equations m, dimension d.
 // A refusal is an answer too; what a call found out is an answer with code 0, 1 or 2.
 
+/// The codes of the refusals, in the order of their checks: the first that applies is given.
+pub const ORDER: [u16; 9] = [11, 12, 19, 13, 14, 15, 16, 17, 18];
+
+/// How many of them, from the first, are about the sheet and its check length.
+pub const OF_SHEET: usize = 4;
+
+/// How many encoding and read-back use.
+pub const OF_CODEC: usize = 7;
+
 #[derive(Clone, Copy, Debug, Default, PartialEq, Eq)]
 pub struct Answer {
     pub code: u16,

@@ -1,8 +1,8 @@
 // The five calls: each gives its five numbers and fills its output buffer, or leaves it as found.
-// Checks run in the order 11 to 18 and the first that applies is given.
+// Checks run in the order 11, 12, 19, 13, 14 .. 18 and the first that applies is given.
 
 use crate::answer::Answer;
-use crate::code::{checked_sequence, free_bits, keeps, remainder, rule, transform, Agreeing};
+use crate::code::{checked_sequence, filled, free_bits, keeps, remainder, transform, Agreeing};
 use crate::limits::{HEADER_BYTES, LARGEST_CEILING, LARGEST_EXPONENT, RECORD_BYTES, STRIP_BYTES};
 use crate::sheet::Sheet;
 use crate::{brute, dense, open};
@@ -80,15 +80,7 @@ fn encoded(
     let mut shifted = checked_sequence(&bits, r);
     shifted.extend(vec![false; r]);
     bits.extend(remainder(&shifted, r));
-    let mut u = vec![false; sheet.length()];
-    let mut next = bits.into_iter();
-    for (i, record) in sheet.records.iter().enumerate() {
-        u[i] = if record.frozen {
-            rule(record, &u)
-        } else {
-            next.next().expect("K bits")
-        };
-    }
+    let u = filled(&sheet, &bits);
     assert!(keeps(&sheet, r, &u), "the encoder keeps rules and check");
     put(out, &transform(&u));
     Ok(Answer::code(0))

@@ -67,6 +67,20 @@ pub fn free_bits(sheet: &Sheet, u: &[bool]) -> Vec<bool> {
     sheet.free().into_iter().map(|i| u[i]).collect()
 }
 
+/// The u that keeps every frozen rule and holds these K bits at the free positions, rising.
+pub fn filled(sheet: &Sheet, free_bits: &[bool]) -> Vec<bool> {
+    let mut u = vec![false; sheet.length()];
+    let mut next = free_bits.iter();
+    for (i, record) in sheet.records.iter().enumerate() {
+        u[i] = if record.frozen {
+            rule(record, &u)
+        } else {
+            *next.next().expect("K bits")
+        };
+    }
+    u
+}
+
 /// Whether u keeps every frozen rule and the check.
 pub fn keeps(sheet: &Sheet, r: usize, u: &[bool]) -> bool {
     let rules = (sheet.records.iter().zip(u))

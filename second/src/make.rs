@@ -1,10 +1,10 @@
-// Makes sheets as bytes: good ones at random, and one fault of a named kind put into a record;
-// and words: codewords of any payload, and their losses. The requests and the tests are made
-// from these.
+// Makes sheets as bytes: ones that keep every rule, at random, and one fault of a named kind put
+// into a record; and words: codewords of any payload, and their losses. The requests and the tests
+// are made from these.
 
 use crate::answer::Answer;
 use crate::calls;
-use crate::code::ERASED;
+use crate::code::{filled, transform, ERASED};
 use crate::limits::{MASK_BYTES, RECORD_BYTES};
 use crate::rng::Rng;
 use crate::sheet::{Record, Sheet};
@@ -53,13 +53,14 @@ pub const STYLES: [Style; 4] = [
     },
 ];
 
-/// A good sheet of N records with K free positions, drawn at random.
+/// A sheet of N records that keep every rule, with K free positions, drawn at random: a good one
+/// where K is at least 1.
 pub fn good(rng: &mut Rng, length: usize, k: usize, style: Style) -> Vec<u8> {
     let order = rng.order(length);
     frozen_at(rng, length, &order[k..], style)
 }
 
-/// A good sheet of N records, frozen at these positions.
+/// A sheet of N records that keep every rule, frozen at these positions.
 pub fn frozen_at(rng: &mut Rng, length: usize, positions: &[usize], style: Style) -> Vec<u8> {
     let mut records = vec![Record::default(); length];
     for &i in positions {
@@ -90,7 +91,7 @@ fn every_record(i: usize) -> Vec<Record> {
     list
 }
 
-/// Every good sheet of N records, for N of 1, 2 and 4.
+/// Every sheet of N records that keep every rule, K = 0 too, for N of 1, 2 and 4.
 pub fn every_sheet(length: usize) -> Vec<Vec<Record>> {
     let mut list = vec![Vec::new()];
     for i in 0..length {
@@ -128,6 +129,13 @@ pub fn any_codeword(rng: &mut Rng, n: usize, sheet: &[u8], r: usize) -> Vec<u8> 
     let answer = calls::encode(n, sheet, r, &payload, &mut word);
     assert_eq!(answer, Answer::code(0));
     word
+}
+
+/// The word of the one u that keeps every rule of a sheet with no free position.
+pub fn only_word(n: usize, sheet: &[u8]) -> Vec<u8> {
+    let sheet = Sheet::of_any_k(n, sheet).expect("a sheet that keeps every rule");
+    let word = transform(&filled(&sheet, &[]));
+    word.into_iter().map(u8::from).collect()
 }
 
 /// The word with each symbol erased at a chance of `losses` in eight.
@@ -187,7 +195,21 @@ pub fn faults_at(length: usize, i: usize) -> Vec<Fault> {
         .collect()
 }
 
-/// Puts a fault into record i of a good sheet.
+/// Those of them that leave a frozen record frozen.
+pub fn frozen_faults_at(length: usize, i: usize) -> Vec<Fault> {
+    let others = [
+        Fault::KindTwo,
+        Fault::KindMost,
+        Fault::KindAny,
+        Fault::FreeConstant,
+        Fault::FreeMask,
+    ];
+    let mut faults = faults_at(length, i);
+    faults.retain(|fault| !others.contains(fault));
+    faults
+}
+
+/// Puts a fault into record i of a sheet that keeps every rule.
 pub fn spoil(rng: &mut Rng, sheet: &mut [u8], i: usize, fault: Fault) {
     let length = sheet.len() / RECORD_BYTES;
     let names = 8 * MASK_BYTES;

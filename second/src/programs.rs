@@ -45,7 +45,7 @@ fn recover_input(lot: &Lot) -> Vec<u8> {
 fn show_input(lot: &Lot) -> Vec<u8> {
     let mut rng = Rng::new(520);
     let mut records = lot.answers();
-    for (n, k) in [(0, 0), (0, 1), (3, 4)] {
+    for (n, k) in [(0, 1), (1, 1), (3, 4)] {
         records.extend(short_words(&mut rng, n, k));
     }
     records.extend(refusals(&mut rng));
@@ -95,6 +95,12 @@ fn refusals(rng: &mut Rng) -> Vec<u8> {
         records.extend(answer_records(&sheet, &[0, 63], &bad_word));
     }
     records.extend(answer_records(&sheet, &[0, 63], &word[1..]));
+    // no free position: two words, the last cut off where N allows it, under right and wrong choices
+    for (n, choice) in [(0, [0, 63]), (3, [0, 63]), (7, [11, 64])] {
+        let sheet = good(rng, 1 << n, 0, STYLES[3]);
+        let input = vec![0; (1 << n) + 1];
+        records.extend(answer_records(&sheet, &choice, &input));
+    }
     records
 }
 

@@ -1,5 +1,6 @@
 // The code sheet: N records read from their bytes and held to the rules of the sheet,
-// with the refusals 11 (length), 12 (bad record) and 13 (check length, or K too small).
+// with the refusals, in this order, 11 (length), 12 (bad record), 19 (K = 0) and 13 (check length,
+// or K too small for it).
 
 use crate::answer::Answer;
 use crate::code::polynomial;
@@ -41,8 +42,20 @@ impl Record {
 }
 
 impl Sheet {
-    /// The sheet of N = 2^n records with its check length r, or the first refusal of 11, 12, 13.
+    /// The sheet of N = 2^n records with its check length r, or the first refusal of 11, 12, 19, 13.
     pub fn read(n: usize, bytes: &[u8], r: usize) -> Result<Sheet, Answer> {
+        let sheet = Sheet::of_any_k(n, bytes)?;
+        if sheet.k() == 0 {
+            return Err(Answer::code(19));
+        }
+        if polynomial(r).is_none() || (r > 0 && sheet.k() <= r) {
+            return Err(Answer::code(13));
+        }
+        Ok(sheet)
+    }
+
+    /// The sheet of N = 2^n records that keep every rule, K = 0 too, or the first refusal of 11, 12.
+    pub fn of_any_k(n: usize, bytes: &[u8]) -> Result<Sheet, Answer> {
         if n > LARGEST_EXPONENT || bytes.len() != RECORD_BYTES << n {
             return Err(Answer::code(11));
         }
@@ -51,11 +64,7 @@ impl Sheet {
             .enumerate()
             .map(|(i, record)| Record::read(i, record).ok_or(Answer::at(12, i)))
             .collect::<Result<Vec<Record>, Answer>>()?;
-        let sheet = Sheet { records };
-        if polynomial(r).is_none() || (r > 0 && sheet.k() <= r) {
-            return Err(Answer::code(13));
-        }
-        Ok(sheet)
+        Ok(Sheet { records })
     }
 
     /// N.

@@ -1,5 +1,6 @@
 // Answer records as lines for a person: one line for each record, then the counts.
 
+use crate::answer::ORDER;
 use crate::calls::ANSWER_BYTES;
 use crate::limits::{HEADER_BYTES, STRIP_BYTES};
 
@@ -16,7 +17,7 @@ const KINDS: [&str; 5] = [
 fn kind(code: u8) -> usize {
     match code {
         0..=2 => code.into(),
-        11..=18 => 3,
+        code if ORDER.contains(&code.into()) => 3,
         _ => 4,
     }
 }
@@ -54,6 +55,7 @@ pub fn refusal(code: u8, place: u8) -> String {
         16 => "the output is too short".to_string(),
         17 => "the ceiling is above 63".to_string(),
         18 => "more unknowns than the ceiling allows".to_string(),
+        19 => "the sheet has no free position: it holds nothing".to_string(),
         code => panic!("no refusal {code}"),
     }
 }
@@ -67,7 +69,7 @@ pub fn said(record: &[u8]) -> String {
         0 => format!("{counts}  {settled}"),
         1 => format!("{counts}  settled {settled}  first {first}  last {last}"),
         2 => counts,
-        11..=17 => refusal(code, place),
+        11..=17 | 19 => refusal(code, place),
         18 => format!("g {g:>3}  {}", refusal(code, place)),
         _ => return format!("code {code} is no answer's"),
     };

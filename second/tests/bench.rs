@@ -1,4 +1,5 @@
-// The bench examples of the scope, number by number and byte by byte.
+// The bench examples of the scope, number by number and byte by byte. W-202 amends the two of a
+// frozen N = 1: the sheet has no free position and is refused.
 
 mod common;
 use common::{decode, numbers, sheet_e, symbols, BEFORE};
@@ -86,9 +87,10 @@ fn one_and_two_symbols() {
     hold(0, &free, 0, &("2", 1, 1, 0, 1, Some(["2", "0", "1"])));
     let mut frozen = [0; 20];
     frozen[..2].copy_from_slice(&[1, 1]);
-    hold(0, &frozen, 0, &("2", 0, 0, 0, 0, Some(["1"; 3])));
-    hold(0, &frozen, 0, &("0", 2, 0, 1, 0, None));
-    hold(0, &frozen, 0, &("1", 0, 0, 1, 0, Some(["1"; 3])));
+    // W-202: K = 0 answers 19, the rest 0, whatever the word
+    hold(0, &frozen, 0, &("2", 19, 0, 0, 0, None));
+    hold(0, &frozen, 0, &("0", 19, 0, 0, 0, None));
+    hold(0, &frozen, 0, &("1", 19, 0, 0, 0, None));
     // ordered by u, not by x: the last u is 11, whose x is 01
     hold(
         1,

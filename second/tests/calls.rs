@@ -3,9 +3,9 @@
 
 mod common;
 use common::{any_sheet, decode, numbers, symbols, BEFORE};
-use second::answer::Answer;
+use second::answer::{Answer, OF_CODEC, OF_SHEET, ORDER};
 use second::calls::{self, ANSWER_BYTES};
-use second::make::{any_codeword, bits, damaged, good, STYLES};
+use second::make::{any_codeword, bits, bytes, damaged, every_sheet, good, only_word, STYLES};
 use second::rng::Rng;
 use second::sheet::Sheet;
 
@@ -90,28 +90,40 @@ fn a_word_is_a_codeword_or_not() {
     assert!(seen[0] > 10 && seen[2] > 200, "{seen:?}");
 }
 
-/// The faults of a call as a set: whether the one with this code is in it.
+/// The faults of a call as a set, in the order of the refusals: whether the one with this code is
+/// in it.
 fn has(set: usize, code: u16) -> bool {
-    set >> (code - 11) & 1 == 1
+    let at = ORDER.iter().position(|&other| other == code);
+    set >> at.expect("a refusal") & 1 == 1
 }
 
 /// The first refusal of a set of faults.
 fn first(set: usize) -> Option<u16> {
-    (11..=18).find(|&code| has(set, code))
+    ORDER.into_iter().find(|&code| has(set, code))
 }
 
-/// N = 128, K = 100; the sheet, n and r with the faults 11, 12 and 13 of the set.
+/// Whether none of the faults is one of the sheet.
+fn sheet_is_good(set: usize) -> bool {
+    !ORDER[..OF_SHEET].iter().any(|&code| has(set, code))
+}
+
+/// N = 128, K = 100; the sheet, n and r with the faults 11, 12, 19 and 13 of the set.
 fn faulty_sheet(rng: &mut Rng, set: usize) -> (usize, Vec<u8>, usize) {
-    let k = if has(set, 13) { 11 } else { 100 };
+    let (k, r) = match (has(set, 19), has(set, 13)) {
+        (false, false) => (100, 11),
+        (false, true) => (11, 11),
+        (true, false) => (0, 0),
+        (true, true) => (0, rng.pick(&[6, 11, 5, 65535])),
+    };
     let mut sheet = good(rng, 128, k, STYLES[3]);
     if has(set, 12) {
         sheet[20 * 77 + 3] = 1;
-        sheet[20 * 90] = 2;
+        sheet[20 * 90 + 1] = 2;
     }
     if has(set, 11) {
         sheet.pop();
     }
-    (7, sheet, 11)
+    (7, sheet, r)
 }
 
 /// A good vector with the faults 14 and 15 of the set.
@@ -147,7 +159,7 @@ fn untouched(out: &[u8]) -> bool {
 #[test]
 fn check_sheet_refuses_in_order() {
     let mut rng = Rng::new(4);
-    for set in 0..1 << 3 {
+    for set in 0..1 << OF_SHEET {
         let (n, sheet, r) = faulty_sheet(&mut rng, set);
         let expected = first(set).map_or(Answer::code(0), |code| refusal(code, 0));
         assert_eq!(calls::check_sheet(n, &sheet, r), expected, "{set:b}");
@@ -157,9 +169,11 @@ fn check_sheet_refuses_in_order() {
 #[test]
 fn encode_refuses_in_order() {
     let mut rng = Rng::new(5);
-    for set in 0..1 << 6 {
+    for set in 0..1 << OF_CODEC {
         let (n, sheet, r) = faulty_sheet(&mut rng, set);
-        let payload = faulty_form(bits(&mut rng, 89), set, 2);
+        // with no free position the empty payload is right
+        let right = if has(set, 19) && !has(set, 15) { 0 } else { 89 };
+        let payload = faulty_form(bits(&mut rng, right), set, 2);
         let mut out = buffer(128, set);
         let answer = calls::encode(n, &sheet, r, &payload, &mut out);
         let expected = first(set).map_or(Answer::code(0), |code| refusal(code, 0));
@@ -171,11 +185,11 @@ fn encode_refuses_in_order() {
 #[test]
 fn decode_refuses_in_order() {
     let mut rng = Rng::new(6);
-    for set in 0..1 << 8 {
+    for set in 0..1 << ORDER.len() {
         let (n, sheet, r) = faulty_sheet(&mut rng, set);
         let word = if has(set, 18) {
             vec![2; 128]
-        } else if first(set).is_none_or(|code| code > 13) {
+        } else if sheet_is_good(set) {
             any_codeword(&mut rng, n, &sheet, r)
         } else {
             vec![0; 128]
@@ -196,9 +210,9 @@ fn decode_refuses_in_order() {
 #[test]
 fn read_back_refuses_in_order() {
     let mut rng = Rng::new(7);
-    for set in 0..1 << 6 {
+    for set in 0..1 << OF_CODEC {
         let (n, sheet, r) = faulty_sheet(&mut rng, set);
-        let codeword = if first(set).is_none_or(|code| code > 13) {
+        let codeword = if sheet_is_good(set) {
             any_codeword(&mut rng, n, &sheet, r)
         } else {
             vec![0; 128]
@@ -246,13 +260,77 @@ fn sheets_at_the_border() {
     for r in [6, 11] {
         for k in [0, 1, r - 1, r, r + 1, 32] {
             let sheet = good(&mut rng, 32, k, STYLES[3]);
-            let code = if k <= r { 13 } else { 0 };
+            let code = match k {
+                0 => 19,
+                k if k <= r => 13,
+                _ => 0,
+            };
             assert_eq!(calls::check_sheet(5, &sheet, r), Answer::code(code));
         }
     }
     for r in (0..300).chain([65535]) {
         let code = if [0, 6, 11].contains(&r) { 0 } else { 13 };
         assert_eq!(calls::check_sheet(7, &free[..2560], r), Answer::code(code));
+    }
+}
+
+/// What the four calls of a sheet answer, each with nothing wrong but the sheet and r, and each
+/// with a wrong length, symbol, room and ceiling as well.
+fn hold_refused(n: usize, sheet: &[u8], r: usize, word: &[u8], expected: Answer) {
+    assert_eq!(calls::check_sheet(n, sheet, r), expected);
+    let strange = vec![255; (1 << n) + 1];
+    for (payload, word, room, ceiling) in [
+        (&[0; 0][..], word, 3 << n, 63),
+        (&[], &vec![2; 1 << n], 3 << n, 0),
+        (&strange, &strange, 0, 64),
+    ] {
+        let mut out = vec![BEFORE; room];
+        let encoded = calls::encode(n, sheet, r, payload, &mut out);
+        let decoded = calls::decode(n, sheet, r, ceiling, word, &mut out);
+        let read = calls::read_back(n, sheet, r, word, &mut out);
+        assert_eq!([encoded, decoded, read], [expected; 3], "n {n}, r {r}");
+        assert!(untouched(&out));
+    }
+}
+
+#[test]
+fn sheets_that_hold_nothing() {
+    let mut rng = Rng::new(10);
+    for n in 0..=7 {
+        for style in STYLES {
+            let sheet = good(&mut rng, 1 << n, 0, style);
+            let word = only_word(n, &sheet);
+            // before 13, whatever r is
+            for r in [0, 6, 11, 1, 5, 7, 12, 256, 65535] {
+                hold_refused(n, &sheet, r, &word, Answer::code(19));
+            }
+            // after 11 and 12
+            hold_refused(n, &sheet[1..], 0, &word, Answer::code(11));
+            hold_refused(n + 8, &sheet, 0, &word, Answer::code(11));
+            let place = rng.below(1 << n);
+            let mut bad = sheet.clone();
+            bad[20 * place + 2] = 1;
+            hold_refused(n, &bad, 5, &word, Answer::at(12, place));
+            // one free position is enough
+            let mut one = sheet.clone();
+            one[20 * place..20 * (place + 1)].fill(0);
+            assert_eq!(calls::check_sheet(n, &one, 0), Answer::code(0));
+            assert_eq!(calls::check_sheet(n, &one, 6), Answer::code(13));
+            let codeword = any_codeword(&mut rng, n, &one, 0);
+            assert_eq!(decode(n, &one, 0, 0, &codeword).0.code, 0);
+        }
+    }
+    // of all sheets up to four symbols exactly those without a free record
+    for n in 0..=2 {
+        for records in every_sheet(1 << n) {
+            let code = if records.iter().all(|record| record.frozen) {
+                19
+            } else {
+                0
+            };
+            let answer = calls::check_sheet(n, &bytes(&records), 0);
+            assert_eq!(answer, Answer::code(code));
+        }
     }
 }
 
@@ -342,8 +420,21 @@ fn every_word_of_a_stream_has_its_own_record() {
     let mut rng = Rng::new(9);
     let mut codes = std::collections::BTreeSet::new();
     for n in 0..=7 {
-        for (r, ceiling) in [(0, 63), (6, 3), (11, 63), (0, 64), (5, 63), (6, 255)] {
-            let k = rng.within((r + 1).min(1 << n), 1 << n);
+        for (r, ceiling, none_free) in [
+            (0, 63, false),
+            (6, 3, false),
+            (11, 63, false),
+            (0, 64, false),
+            (5, 63, false),
+            (6, 255, false),
+            (0, 63, true),
+            (5, 64, true),
+        ] {
+            let k = if none_free {
+                0
+            } else {
+                rng.within((r + 1).min(1 << n), 1 << n)
+            };
             let mut sheet = good(&mut rng, 1 << n, k, STYLES[3]);
             if r == 11 && n % 2 == 0 {
                 sheet[20 * ((1 << n) - 1) + 2] = 9;
@@ -376,22 +467,53 @@ fn every_word_of_a_stream_has_its_own_record() {
         }
     }
     assert!(
-        [0, 1, 2, 12, 13, 14, 15, 17, 18]
+        [0, 1, 2, 12, 13, 14, 15, 17, 18, 19]
             .iter()
             .all(|code| codes.contains(code)),
         "{codes:?}"
     );
 }
 
+/// A record of a code with the rest 0 and no strips.
+fn lone(code: u8) -> Vec<u8> {
+    let mut record = vec![255; ANSWER_BYTES];
+    record[..8].copy_from_slice(&[code, 0, 0, 0, 0, 0, 0, 0]);
+    record
+}
+
+#[test]
+fn streams_of_a_sheet_that_holds_nothing() {
+    let mut rng = Rng::new(11);
+    for n in 0..=7 {
+        let sheet = good(&mut rng, 1 << n, 0, STYLES[3]);
+        let mut input = only_word(n, &sheet);
+        input.extend(vec![2; 1 << n]);
+        input.extend(vec![255; 1 << n]);
+        // a cut-off word, of one symbol; one symbol cannot be cut off
+        input.push(0);
+        for (sheet, choice, input, expected) in [
+            (&sheet[..], &[0, 63][..], &input[..], lone(19).repeat(4)),
+            (&sheet, &[11, 63], &input, lone(19).repeat(4)),
+            (&sheet, &[5, 64], &input, lone(19).repeat(4)),
+            (&sheet, &[0, 63], &[], Vec::new()),
+            (&sheet, &[0], &input, lone(13)),
+            (&sheet, &[], &[], lone(13)),
+            (&sheet[1..], &[0, 63], &input, lone(11)),
+            (&sheet[1..], &[0], &input, lone(11)),
+        ] {
+            let mut out = vec![BEFORE; expected.len() + 1];
+            let answer = calls::stream(sheet, choice, input, &mut out);
+            assert_eq!(answer, Answer::code(0));
+            assert_eq!(out.pop(), Some(BEFORE));
+            assert!(out == expected, "n {n}, choice {choice:?}");
+        }
+    }
+}
+
 #[test]
 fn streams_that_read_no_word() {
     let input = symbols("0101");
     let free = vec![0; 5120];
-    let lone = |code: u8| {
-        let mut record = vec![255; ANSWER_BYTES];
-        record[..8].copy_from_slice(&[code, 0, 0, 0, 0, 0, 0, 0]);
-        record
-    };
     for (sheet, choice, expected) in [
         (0, 2, lone(11)),
         (19, 2, lone(11)),

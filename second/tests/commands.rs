@@ -48,6 +48,15 @@ fn alone(code: u8) -> Vec<u8> {
     record
 }
 
+/// Sheet E with its free positions frozen.
+fn none_free() -> Vec<u8> {
+    let mut sheet = sheet_e();
+    for i in 0..8 {
+        sheet[20 * i] = 1;
+    }
+    sheet
+}
+
 #[test]
 fn the_whole_stream_of_the_bench() {
     let dir = stream_folder("bench", Some(&sheet_e()), Some(&[0, 63]));
@@ -69,6 +78,7 @@ fn the_whole_stream_of_the_bench() {
 #[test]
 fn one_record_where_the_words_are_not_read() {
     let sheet = sheet_e();
+    let nothing = none_free();
     for (name, sheet, choice, code) in [
         ("no-files", None, None, 11),
         ("no-sheet", None, Some(&[0, 63][..]), 11),
@@ -76,6 +86,8 @@ fn one_record_where_the_words_are_not_read() {
         ("no-choice", Some(&sheet), None, 13),
         ("short-choice", Some(&sheet), Some(&[0]), 13),
         ("long-choice", Some(&sheet), Some(&[0, 63, 0]), 13),
+        ("nothing-cut", Some(&nothing[1..]), Some(&[0, 63]), 11),
+        ("nothing-chosen", Some(&nothing), Some(&[0]), 13),
     ] {
         let dir = stream_folder(name, sheet, choice);
         let mut child = command(&["stream", dir.to_str().unwrap()]).spawn().unwrap();
@@ -97,6 +109,14 @@ fn checks_of_the_words_come_one_by_one() {
     let dir = dir.to_str().unwrap();
     assert_eq!(written(&["stream", dir], &[9; 17]), refused.repeat(3));
     assert_eq!(written(&["stream", dir], &[]), []);
+    let dir = stream_folder("nothing", Some(&none_free()), Some(&[7, 99]));
+    let dir = dir.to_str().unwrap();
+    let answers = written(&["stream", dir], &[9; 17]);
+    assert_eq!(answers, alone(19).repeat(3));
+    assert_eq!(written(&["stream", dir], &[]), []);
+    let text = String::from_utf8(written(&["show"], &answers)).unwrap();
+    let line = "     3  refused 19    the sheet has no free position: it holds nothing\n";
+    assert!(text.contains(line), "{text}");
 }
 
 #[test]
@@ -114,6 +134,10 @@ fn words_are_the_same_again() {
     let refused = run(&["words", dir, "10", "7"], &[]);
     assert_eq!(refused.status.code(), Some(1));
     assert_eq!(refused.stderr, b"second: refused 13\n");
+    std::fs::write(Path::new(dir).join("sheet.bin"), none_free()).unwrap();
+    let refused = run(&["words", dir, "10", "7"], &[]);
+    assert_eq!(refused.status.code(), Some(1));
+    assert_eq!(refused.stderr, b"second: refused 19\n");
 }
 
 #[test]

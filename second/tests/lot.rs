@@ -163,6 +163,10 @@ fn codewords_are_those_of_the_encoder() {
     assert_eq!(refusal(0, &[0; 19], 0), Some(Answer::code(11)));
     assert_eq!(refusal(0, &[2; 20], 0), Some(Answer::at(12, 0)));
     assert_eq!(refusal(0, &[0; 20], 6), Some(Answer::code(13)));
+    let frozen = [&[1][..], &[0; 19]].concat();
+    for r in [0, 6, 5] {
+        assert_eq!(refusal(0, &frozen, r), Some(Answer::code(19)));
+    }
 }
 
 #[test]
@@ -213,6 +217,12 @@ fn the_programs_are_held_to_every_code() {
     }
     let text = std::str::from_utf8(file("show/stdout")).unwrap();
     assert_eq!(text, second::show::show(records));
+    // a sheet with no free position as a stream answers it, and with other numbers that are not 0
+    let held = |start: [u8; 8]| records.chunks_exact(392).filter(move |r| r[..8] == start);
+    assert!(held([19, 0, 0, 0, 0, 0, 0, 0]).count() > 3);
+    assert!(held([19, 255, 255, 255, 255, 255, 255, 255]).count() > 0);
+    assert!(text.contains("  refused 19    the sheet has no free position: it holds nothing\n"));
+    assert!(text.contains("  code 20 is no answer's\n"));
 }
 
 #[test]

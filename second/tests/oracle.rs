@@ -3,6 +3,7 @@
 
 mod common;
 use common::{any_sheet, decode};
+use second::answer::Answer;
 use second::make::{any_codeword, bits, bytes, damaged, every_sheet, every_word};
 use second::rng::Rng;
 use second::sheet::Sheet;
@@ -10,16 +11,23 @@ use second::{brute, dense, open};
 
 #[test]
 fn every_sheet_and_word_up_to_four() {
-    for (n, count) in [(0, 3), (1, 15), (2, 2295)] {
+    for (n, count, none_free) in [(0, 3, 2), (1, 15, 8), (2, 2295, 1024)] {
         let sheets = every_sheet(1 << n);
         assert_eq!(sheets.len(), count);
+        let mut refused = 0;
         let mut seen = [0; 3];
         for records in sheets {
             let sheet = &Sheet { records };
-            assert_eq!(
-                Sheet::read(n, &bytes(&sheet.records), 0).as_ref(),
-                Ok(sheet)
-            );
+            let bytes = bytes(&sheet.records);
+            assert_eq!(Sheet::of_any_k(n, &bytes).as_ref(), Ok(sheet));
+            // K = 0 is refused; its system is held to the trial all the same
+            let read = Sheet::read(n, &bytes, 0);
+            if sheet.k() == 0 {
+                assert_eq!(read, Err(Answer::code(19)));
+                refused += 1;
+            } else {
+                assert_eq!(read.as_ref(), Ok(sheet));
+            }
             for word in every_word(1 << n, 3) {
                 let found = dense::agreeing(sheet, 0, &word);
                 assert_eq!(
@@ -27,10 +35,15 @@ fn every_sheet_and_word_up_to_four() {
                     brute::agreeing(sheet, 0, &word),
                     "{sheet:?} {word:?}"
                 );
-                seen[found.map_or(2, |found| found.d.min(1))] += 1;
+                if sheet.k() > 0 {
+                    seen[found.map_or(2, |found| found.d.min(1))] += 1;
+                }
             }
         }
-        assert!(seen.iter().all(|&count| count > 0), "{seen:?}");
+        assert_eq!(refused, none_free);
+        // one free symbol has no rule to break
+        let most = if n == 0 { 2 } else { 3 };
+        assert!(seen[..most].iter().all(|&count| count > 0), "{seen:?}");
     }
 }
 

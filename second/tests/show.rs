@@ -59,6 +59,10 @@ fn refusals() {
             Answer::counted(18, 64, 0, 0),
             "refused 18    g  64  more unknowns than the ceiling allows",
         ),
+        (
+            Answer::code(19),
+            "refused 19    the sheet has no free position: it holds nothing",
+        ),
     ] {
         let record = answer_record(answer, &[], 1);
         assert_eq!(said(&record), line);
@@ -71,7 +75,7 @@ fn refusals() {
 
 #[test]
 fn codes_of_no_answer() {
-    for code in (3..=10).chain(19..=255) {
+    for code in (3..=10).chain(20..=255) {
         let record = answer_record(numbers(code, 1, 2, 3, 4), &[0; 3], 1);
         assert_eq!(said(&record), format!("code {code} is no answer's"));
     }

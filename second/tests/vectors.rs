@@ -2,7 +2,7 @@
 
 mod common;
 use common::{sheet_e, symbols};
-use second::answer::Answer;
+use second::answer::{Answer, OF_CODEC, OF_SHEET, ORDER};
 use second::code::{checked_sequence, free_bits, keeps, remainder, transform};
 use second::open;
 use second::protocol::{write_answer, Request};
@@ -171,11 +171,11 @@ fn every_list_has_its_size() {
         sizes.push(size);
         counts.push(list.len());
     }
-    assert!((2_400..=3_000).contains(&counts[0]), "{counts:?}");
-    assert!((5_000..=5_600).contains(&(counts[1] + counts[3])));
+    assert!((3_000..=3_600).contains(&counts[0]), "{counts:?}");
+    assert!((5_600..=6_200).contains(&(counts[1] + counts[3])));
     assert!((20_000..=22_000).contains(&counts[2]), "{counts:?}");
-    assert!((300..=500).contains(&counts[4]), "{counts:?}");
-    assert!(sizes[0] + sizes[1] + sizes[3] < 7_000_000, "{sizes:?}");
+    assert!((400..=600).contains(&counts[4]), "{counts:?}");
+    assert!(sizes[0] + sizes[1] + sizes[3] < 7_500_000, "{sizes:?}");
     assert!(sizes[2] < 16_000_000, "{sizes:?}");
 }
 
@@ -245,6 +245,12 @@ fn kinds_of(request: &Request) -> Vec<u8> {
     records.map(|record| record[0]).collect()
 }
 
+/// Whether there are records and each of them is frozen.
+fn all_frozen(request: &Request) -> bool {
+    let kinds = kinds_of(request);
+    !kinds.is_empty() && kinds.iter().all(|&kind| kind == 1)
+}
+
 /// g, an unread or bad symbol counted as read.
 fn unknowns(request: &Request) -> usize {
     let mut word = request.b.clone();
@@ -256,9 +262,9 @@ fn unknowns(request: &Request) -> usize {
         .count()
 }
 
-/// The refusals of encode, decode and read-back that apply, each looked at alone. Under a wrong
-/// check length, payload and room count as right if they are so for any other.
-fn applying(request: &Request) -> BTreeSet<u16> {
+/// The refusals of a call that apply, in their order, each looked at alone. Under a wrong check
+/// length, payload and room count as right if they are so for any other.
+fn applying(request: &Request) -> Vec<u16> {
     let length = length_of(request);
     let k = kinds_of(request).iter().filter(|&&kind| kind == 0).count();
     let suits = |r: usize| r == 0 || ([6, 11].contains(&r) && k > r);
@@ -280,21 +286,23 @@ fn applying(request: &Request) -> BTreeSet<u16> {
     let conditions = [
         request.n > 7 || request.a.len() != 20 * length,
         bad_record,
+        all_frozen(request),
         !suits(r),
-        !lengths.contains(&request.b.len()),
-        request.b.iter().any(|&symbol| symbol > largest),
-        rooms.iter().all(|&needed| request.o < needed),
+        request.op > 0 && !lengths.contains(&request.b.len()),
+        request.op > 0 && request.b.iter().any(|&symbol| symbol > largest),
+        request.op > 0 && rooms.iter().all(|&needed| request.o < needed),
         request.op == 2 && ceiling > 63,
         request.op == 2 && unknowns(request) > ceiling,
     ];
-    (11..=18)
-        .filter(|code| conditions[code - 11])
-        .map(|code| code as u16)
+    (ORDER.into_iter().zip(conditions))
+        .filter(|&(_, applies)| applies)
+        .map(|(code, _)| code)
         .collect()
 }
 
-/// Every refusal comes first, alone and before every later one, at every n where it can.
-fn hold_refusals(op: u16, last: u16, impossible: fn(u16, u16, u16) -> bool) {
+/// Each of the first so many refusals comes first, alone and before every later one, at every n
+/// where it can.
+fn hold_refusals(op: u16, count: usize, impossible: fn(u16, u16, u16) -> bool) {
     let mut alone = BTreeSet::new();
     let mut before = BTreeSet::new();
     for (request, answer, out) in answered(op) {
@@ -312,9 +320,9 @@ fn hold_refusals(op: u16, last: u16, impossible: fn(u16, u16, u16) -> bool) {
         before.extend(codes.iter().map(|&code| (n, first, code)));
     }
     for n in 0..=7 {
-        for first in 11..=last {
+        for (at, &first) in ORDER[..count].iter().enumerate() {
             assert!(alone.contains(&(n, first)), "n {n}: {first} alone");
-            for later in first + 1..=last {
+            for &later in &ORDER[at + 1..count] {
                 let seen = before.contains(&(n, first, later));
                 assert_eq!(
                     seen,
@@ -328,14 +336,58 @@ fn hold_refusals(op: u16, last: u16, impossible: fn(u16, u16, u16) -> bool) {
 
 #[test]
 fn every_refusal_in_its_order() {
-    hold_refusals(1, 16, |_, _, _| false);
-    hold_refusals(3, 16, |_, _, _| false);
-    // g is above 64 in 128 symbols alone; of one symbol, a bad one leaves none to be lost
-    hold_refusals(2, 18, |n, first, later| match (first, later) {
+    hold_refusals(0, OF_SHEET, |_, _, _| false);
+    hold_refusals(1, OF_CODEC, |_, _, _| false);
+    // with no free position the payload needs no room
+    hold_refusals(3, OF_CODEC, |_, first, later| (first, later) == (19, 16));
+    // g is above 64 in 128 symbols alone; of one symbol, a bad one leaves none to be lost; with no
+    // free position g is 0
+    hold_refusals(2, ORDER.len(), |n, first, later| match (first, later) {
         (17, 18) => n < 7,
         (15, 18) => n == 0,
+        (19, 18) => true,
         _ => false,
     });
+}
+
+#[test]
+fn sheets_with_no_free_position() {
+    for op in 0..4 {
+        let mut refused = BTreeSet::new();
+        let mut bad = BTreeSet::new();
+        let mut one_free = BTreeSet::new();
+        for (request, answer, out) in answered(op) {
+            let free = kinds_of(request).iter().filter(|&&kind| kind == 0).count();
+            match answer.code {
+                19 => {
+                    assert_eq!(answer, &Answer::code(19));
+                    assert!(out.iter().all(|&byte| byte == 165) && all_frozen(request));
+                    refused.insert((request.n, request.r));
+                }
+                12 if all_frozen(request) => {
+                    bad.insert((request.n, kind_of_place(answer.place, 1 << request.n)));
+                }
+                0..=2 => {
+                    assert!(free > 0);
+                    if (free, request.r) == (1, 0) {
+                        one_free.insert(request.n);
+                    }
+                }
+                _ => {}
+            }
+        }
+        for n in 0..=7 {
+            for r in (0..=13).chain([255, 256, 262, 267, 65535]) {
+                assert!(refused.contains(&(n, r)), "op {op}, n {n}, r {r}");
+            }
+            // one symbol is the first alone, two have none between
+            let places = [&[0][..], &[0, 2], &[0, 1, 2]][usize::from(n).min(2)];
+            for &place in places {
+                assert!(bad.contains(&(n, place)), "op {op}, n {n}, place {place}");
+            }
+            assert!(one_free.contains(&n), "op {op}, n {n}: K = 1");
+        }
+    }
 }
 
 /// Where a place stands in a length: first, between or last.
@@ -445,10 +497,13 @@ fn payloads_reach_what_they_must() {
         }
     }
     assert_eq!(good, choices());
-    // one symbol has no bit before it
-    assert_eq!(kinds.len(), 2 + 7 * 5);
+    // one symbol is free
+    assert_eq!(kinds.len(), 1 + 7 * 5);
     for n in 0..=7 {
-        assert!(empty.contains(&(n, 0, 0)) && empty.contains(&(n, 0, 14)));
+        assert!(empty.contains(&(n, 0, 14)));
+        for r in [0, 6, 11, 5] {
+            assert!(empty.contains(&(n, r, 19)), "n {n}, r {r}");
+        }
         for r in [6, 11].into_iter().filter(|&r| r <= 1 << n) {
             assert!(empty.contains(&(n, r, 13)), "n {n}, r {r}");
         }
@@ -486,7 +541,8 @@ fn words_read_back_reach_what_they_must() {
     }
     for (n, r) in choices() {
         for kept in [(true, true), (false, true), (true, false), (false, false)] {
-            let possible = r > 0 || kept.1;
+            // one symbol is free and has no rule to break
+            let possible = (r > 0 || kept.1) && (n > 0 || kept.0);
             assert_eq!(
                 seen.contains(&(n, r, kept)),
                 possible,
@@ -494,7 +550,7 @@ fn words_read_back_reach_what_they_must() {
             );
         }
     }
-    assert_eq!(zero.len(), 16);
+    assert_eq!(zero.len(), 1 + 7 * 2);
 }
 
 #[test]
@@ -521,8 +577,8 @@ fn bench_rows_are_decoded() {
         (&e, 0, 3, "22222222", [18, 0, 4, 0, 0]),
         (&e, 0, 4, "22222222", [1, 0, 4, 0, 4]),
         (&free, 0, 63, "2", [1, 0, 1, 0, 1]),
-        (&frozen, 0, 63, "2", [0, 0, 0, 0, 0]),
-        (&frozen, 0, 63, "0", [2, 0, 0, 1, 0]),
+        (&frozen, 0, 63, "2", [19, 0, 0, 0, 0]),
+        (&frozen, 0, 63, "0", [19, 0, 0, 0, 0]),
         (&pair, 0, 63, "22", [1, 0, 2, 0, 2]),
         (&check, 6, 63, "22222222", [1, 0, 7, 6, 1]),
         (&refused, 6, 63, "22222222", [13, 0, 0, 0, 0]),
@@ -572,12 +628,19 @@ fn verdicts_reach_what_they_must() {
     for (n, r) in choices() {
         for code in 0..3 {
             let count = verdicts.get(&(n, r, code)).copied().unwrap_or(0);
-            let least = if n == 0 { 2 } else { 20 };
-            assert!(count >= least, "n {n}, r {r}, code {code}: {count}");
+            // one symbol is free and has no rule to break
+            let (least, most) = match (n, code) {
+                (0, 2) => (0, 0),
+                (0, _) => (2, usize::MAX),
+                _ => (20, usize::MAX),
+            };
+            assert!(
+                (least..=most).contains(&count),
+                "n {n}, r {r}, code {code}: {count}"
+            );
         }
     }
-    // one symbol has no bit before it, and two codewords only if it is free
-    assert_eq!(kinds.len(), 5 + 7 * 3 * 5);
+    assert_eq!(kinds.len(), 2 + 7 * 3 * 5);
     assert!((0..=20).all(|d| dimensions.contains(&d)), "{dimensions:?}");
     assert!(dimensions.last() > Some(&50), "{dimensions:?}");
     for (n, patterns) in patterns.iter().enumerate() {
@@ -667,9 +730,9 @@ fn streams_reach_what_they_must() {
     assert!([-1, 0, 1, 3].iter().all(|room| rooms.contains(room)));
     assert!(records.contains(&(None, 11)));
     for n in 0..8 {
-        for code in [0, 1, 2, 12, 13, 14, 15, 17, 18] {
-            // one symbol cannot be cut off
-            let possible = (n, code) != (0, 14);
+        for code in [0, 1, 2, 12, 13, 14, 15, 17, 18, 19] {
+            // one symbol is free and has no rule to break, and it cannot be cut off
+            let possible = (n, code) != (0, 2) && (n, code) != (0, 14);
             assert_eq!(
                 records.contains(&(Some(n), code)),
                 possible,
@@ -697,4 +760,53 @@ fn streams_reach_what_they_must() {
         (&request.a, &request.b) == (&sheet_e(), &example) && request.c == [0, 63]
     });
     assert_eq!(rows.map(|row| row.1.code).collect::<Vec<_>>(), [16, 0, 0]);
+}
+
+/// A record of a code with the rest 0 and no strips.
+fn lone(code: u8) -> Vec<u8> {
+    [&[code, 0, 0, 0, 0, 0, 0, 0][..], &[255; 384]].concat()
+}
+
+#[test]
+fn streams_of_sheets_with_no_free_position() {
+    let mut one_record = BTreeSet::new();
+    let mut records = BTreeSet::new();
+    let mut checks = BTreeSet::new();
+    let mut short = BTreeSet::new();
+    for (request, answer, out) in answered(4) {
+        let count = request.a.len() / 20;
+        if count == 0 || request.a.chunks(20).any(|record| record[0] != 1) {
+            continue;
+        }
+        let n = count.ilog2();
+        let bad = (request.a.chunks_exact(20).enumerate())
+            .any(|(i, record)| !broken(i, 1 << n, record).is_empty());
+        if answer.code == 16 {
+            short.insert(n);
+        } else if request.a.len() != 20 << n {
+            assert_eq!(out[..392], lone(11));
+            one_record.insert((n, 11, request.b.is_empty()));
+        } else if request.c.len() != 2 {
+            assert_eq!(out[..392], lone(13));
+            one_record.insert((n, 13, request.b.is_empty()));
+        } else {
+            let words = request.b.len().div_ceil(1 << n);
+            let first = if bad { 12 } else { 19 };
+            for record in out[..392 * words].chunks(392) {
+                assert_eq!(record[0], first);
+                assert!(bad || record == lone(19));
+            }
+            records.insert((n, first, words, request.b.len().is_multiple_of(1 << n)));
+            checks.insert((n, first, [0, 6, 11].contains(&request.c[0])));
+        }
+    }
+    for n in 0..8 {
+        assert!(short.contains(&n));
+        assert!(one_record.contains(&(n, 11, false)) && one_record.contains(&(n, 13, false)));
+        assert!(one_record.contains(&(n, 13, true)));
+        // one symbol cannot be cut off
+        assert!(records.contains(&(n, 19, 4, n == 0)) && records.contains(&(n, 19, 0, true)));
+        assert!(records.contains(&(n, 12, 4, n == 0)));
+        assert!(checks.contains(&(n, 19, true)) && checks.contains(&(n, 19, false)));
+    }
 }

@@ -2,10 +2,12 @@
 // losses from none to all. Ceilings are placed by the count g of the open free positions.
 
 use super::faults;
-use super::parts::{choices, first_middle_last, room, suited, symbols, Code, CHECKS};
+use super::parts::{
+    choices, every_none_free, first_middle_last, none_free, room, suited, symbols, Code, CHECKS,
+};
 use crate::code::ERASED;
 use crate::limits::{LARGEST_CEILING, LARGEST_EXPONENT};
-use crate::make::{bits, bytes, damaged, every_word, STYLES};
+use crate::make::{bits, bytes, damaged, every_word, only_word, STYLES};
 use crate::open;
 use crate::protocol::Request;
 use crate::rng::Rng;
@@ -20,6 +22,7 @@ pub fn all() -> Vec<Request> {
         largest_ceilings(),
         full_codes(),
         small_codes(),
+        no_free_position(),
         every_loss(),
         every_burst(),
         any_words(),
@@ -60,7 +63,8 @@ fn plain(n: usize, r: usize, frozen: &[(usize, bool)]) -> Code {
     Code { n, r, sheet }
 }
 
-/// The bench rows: E4 to E13, one and two symbols, and the check of length 6 with its refusal.
+/// The bench rows: E4 to E13, one and two symbols (the frozen one is refused), and the check of
+/// length 6 with its refusal.
 fn bench() -> Vec<Request> {
     let mut rows: Vec<(Code, &str, usize)> = [
         "01111000", "22221000", "01112222", "21111000", "11111000", "02200220", "02211220",
@@ -83,23 +87,25 @@ fn bench() -> Vec<Request> {
         .collect()
 }
 
-/// Every set of the faults 11 to 16 together with a ceiling below g (18), above the largest (17)
-/// or, where N allows it, both.
+/// Each of the sets of faults together with a ceiling below g (18), above the largest (17) or, where
+/// N allows it, both. With 19 there is no g above a ceiling.
 fn ceiling_sets() -> Vec<Request> {
     let mut rng = Rng::new(210);
     let mut list = Vec::new();
     for n in 0..=LARGEST_EXPONENT {
         let rounds = if n < 3 { 3 } else { 1 };
-        for set in (0..1 << 6).cycle().take(rounds << 6) {
+        for set in (0..rounds).flat_map(|_| faults::sets()) {
             let r = rng.pick(&CHECKS);
             let code = Code::any(&mut rng, n, suited(n, r));
             let lost = vec![ERASED; 1 << n];
             let g = unknowns(&code, &lost);
             let mut low = decode(&code, lost, rng.below(g.min(LARGEST_CEILING + 1)), 3 << n);
-            list.push(faults::put(&mut rng, low.clone(), set, 2));
+            if !set.contains(&19) {
+                list.push(faults::put(&mut rng, low.clone(), &set, 2));
+            }
             let above = LARGEST_CEILING as u16 + 1;
             low.ceiling = rng.pick(&[above, above, above + 1, 255, 256, 65535]);
-            list.push(faults::put(&mut rng, low, set, 2));
+            list.push(faults::put(&mut rng, low, &set, 2));
         }
     }
     list
@@ -178,17 +184,14 @@ fn largest_ceilings() -> Vec<Request> {
     list
 }
 
-/// All positions free, and all frozen; all symbols lost, none, the left and the right half.
+/// All positions free, and the fewest that r allows; all symbols lost, none, the left and the right
+/// half.
 fn full_codes() -> Vec<Request> {
     let mut rng = Rng::new(217);
     let mut list = Vec::new();
     for (n, r) in choices() {
         let length = 1 << n;
-        for k in if r == 0 {
-            vec![length, 0]
-        } else {
-            vec![length]
-        } {
+        for k in [length, r + 1] {
             let code = Code::new(&mut rng, n, r, k, STYLES[3]);
             for lost in [0..length, 0..0, 0..length / 2, length / 2..length] {
                 let word = code.codeword(&mut rng);
@@ -208,6 +211,34 @@ fn small_codes() -> Vec<Request> {
         for word in every_word(code.length(), 3) {
             list.push(decode_in_room(&mut rng, &code, word, LARGEST_CEILING));
         }
+    }
+    list
+}
+
+/// No free position: refused, whatever the word; every word of one and of two symbols, and for
+/// every N the word that keeps every rule, whole, damaged and all lost, and another.
+fn no_free_position() -> Vec<Request> {
+    let mut rng = Rng::new(218);
+    let mut list = Vec::new();
+    for (n, sheet) in every_none_free() {
+        let code = Code { n, r: 0, sheet };
+        for word in every_word(code.length(), 3) {
+            list.push(decode_in_room(&mut rng, &code, word, LARGEST_CEILING));
+        }
+    }
+    for n in 0..=LARGEST_EXPONENT {
+        let sheet = none_free(&mut rng, n);
+        let code = Code { n, r: 0, sheet };
+        let word = only_word(n, &code.sheet);
+        let mut other = word.clone();
+        other[rng.below(1 << n)] ^= 1;
+        for losses in [0, 4, 8] {
+            let word = damaged(&mut rng, &word, losses);
+            for ceiling in [0, LARGEST_CEILING] {
+                list.push(decode_in_room(&mut rng, &code, word.clone(), ceiling));
+            }
+        }
+        list.push(decode_in_room(&mut rng, &code, other, LARGEST_CEILING));
     }
     list
 }
@@ -259,7 +290,8 @@ fn every_burst() -> Vec<Request> {
     list
 }
 
-/// A code at random, or one with the free positions of the most ones, or one of dense masks.
+/// A code at random, or one with the free positions of the most ones, one of dense masks, or one
+/// with the fewest free positions that r allows.
 fn any_code(rng: &mut Rng, n: usize, r: usize) -> Code {
     match rng.below(8) {
         0..=1 => {
@@ -267,7 +299,7 @@ fn any_code(rng: &mut Rng, n: usize, r: usize) -> Code {
             Code::weighted(rng, n, r, k)
         }
         2 => Code::dense(rng, n, r),
-        3 if r == 0 => Code::new(rng, n, 0, 0, STYLES[3]),
+        3 => Code::new(rng, n, r, r + 1, STYLES[3]),
         _ => Code::any(rng, n, r),
     }
 }
@@ -331,7 +363,7 @@ fn any_ceiling(rng: &mut Rng, code: &Code, word: &[u8]) -> usize {
 fn any_words() -> Vec<Request> {
     let mut rng = Rng::new(216);
     let mut list = Vec::new();
-    let counts = [50, 200, 900, 2700, 3700, 2200, 1500, 1500];
+    let counts = [30, 300, 900, 2700, 3700, 2200, 1500, 1500];
     for (n, count) in counts.into_iter().enumerate() {
         for round in 0..count {
             let code = any_code(&mut rng, n, suited(n, CHECKS[round % 3]));

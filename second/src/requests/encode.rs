@@ -1,8 +1,8 @@
 // Op 1, encode: the refusals, and payloads for every N, check length and kind of sheet; the empty
-// payload where no position is free.
+// payload where no position is free or the check leaves none.
 
 use super::faults;
-use super::parts::{choices, first_middle_last, room, symbols, Code};
+use super::parts::{choices, every_none_free, first_middle_last, room, symbols, Code};
 use crate::limits::LARGEST_EXPONENT;
 use crate::make::{bits, every_word, STYLES};
 use crate::protocol::Request;
@@ -118,17 +118,16 @@ fn small_codes() -> Vec<Request> {
     list
 }
 
-/// No free position: the empty payload alone is right, without a check; under a check K = r is
-/// refused whatever comes.
+/// No free position, and K = r under a check: refused, the empty payload too.
 fn no_payload() -> Vec<Request> {
     let mut rng = Rng::new(115);
     let mut list = Vec::new();
+    for (n, sheet) in every_none_free() {
+        let code = Code { n, r: 0, sheet };
+        list.push(encode_in_room(&mut rng, &code, Vec::new()));
+        list.push(encode_in_room(&mut rng, &code, vec![0]));
+    }
     for n in 0..=LARGEST_EXPONENT {
-        for style in STYLES {
-            let code = Code::new(&mut rng, n, 0, 0, style);
-            list.push(encode_in_room(&mut rng, &code, Vec::new()));
-            list.push(encode_in_room(&mut rng, &code, vec![0]));
-        }
         for r in [6, 11].into_iter().filter(|&r| r <= 1 << n) {
             let mut code = Code::new(&mut rng, n, 0, r, STYLES[3]);
             code.r = r;

@@ -1,7 +1,11 @@
-// Refusals 11 to 16 of a call: good requests with any set of these faults put in, so that their
-// order is seen, and each fault alone at its border.
+// The refusals 11, 12, 19, 13, 14, 15 and 16 of a call: good requests with sets of these faults put
+// in, so that their order is seen, and each fault alone at its border.
 
-use super::parts::{choices, first_middle_last, spoil_somehow, suited, Code, CHECKS, WRONG_CHECKS};
+use super::parts::{
+    any_checks, choices, first_middle_last, none_free, spoil_frozen, spoil_somehow, suited, Code,
+    CHECKS, WRONG_CHECKS,
+};
+use crate::answer::{OF_CODEC, ORDER};
 use crate::limits::{LARGEST_EXPONENT, RECORD_BYTES};
 use crate::make::STYLES;
 use crate::protocol::Request;
@@ -14,7 +18,7 @@ pub type Maker = fn(&mut Rng, &Code) -> Request;
 pub fn all(seed: u64, largest: u8, make: Maker) -> Vec<Request> {
     let rng = |list| Rng::new(seed + list);
     [
-        sets(rng(0), largest, make),
+        some_sets(rng(0), largest, make),
         sheet_lengths(rng(1), make),
         bad_records(rng(2), make),
         wrong_checks(rng(3), make),
@@ -22,48 +26,83 @@ pub fn all(seed: u64, largest: u8, make: Maker) -> Vec<Request> {
         lengths(rng(5), make),
         symbols(rng(6), largest, make),
         rooms(rng(7), make),
+        no_free_position(rng(8), make),
     ]
     .concat()
 }
 
-/// Whether a set of faults holds the one with this code.
-fn has(set: usize, code: usize) -> bool {
-    set >> (code - 11) & 1 == 1
+/// Sets of faults, each by the codes of their refusals: every set of those of encoding and read-back
+/// without 19, and 19 with up to two others.
+pub fn sets() -> Vec<Vec<u16>> {
+    let every = (0..1usize << OF_CODEC).map(|marks| -> Vec<u16> {
+        let marked = ORDER.into_iter().enumerate();
+        let marked = marked.filter(|(at, _)| marks >> at & 1 == 1);
+        marked.map(|(_, code)| code).collect()
+    });
+    every
+        .filter(|set| !set.contains(&19) || set.len() <= 3)
+        .collect()
 }
 
-/// Puts the faults of a set, 11 to 16, into a good request.
-pub fn put(rng: &mut Rng, mut request: Request, set: usize, largest: u8) -> Request {
-    if has(set, 16) {
+/// Puts the faults of a set into a good request. With 19 no payload and no room for it is right,
+/// so a symbol of a payload takes 14 along, and read-back has no output that is too short.
+pub fn put(rng: &mut Rng, mut request: Request, set: &[u16], largest: u8) -> Request {
+    let has = |code: u16| set.contains(&code);
+    if has(19) {
+        free_nothing(rng, &mut request);
+    }
+    if has(16) {
         request.o = if rng.bit() {
-            request.o - 1
+            request.o.max(1) - 1
         } else {
-            rng.below(request.o)
+            rng.below(request.o.max(1))
         };
     }
-    if has(set, 15) {
+    if has(15) {
+        let length = request.b.len().max(1);
+        request.b.resize(length, 0);
         for _ in 0..rng.within(1, 2) {
-            let place = rng.below(request.b.len());
+            let place = rng.below(length);
             request.b[place] = rng.pick(&[largest + 1, 255]);
         }
     }
-    if has(set, 14) {
-        let longer = request.b.len() + 1;
-        let length = rng.pick(&[longer, longer - 2]);
+    if has(14) {
+        let right = request.b.len();
+        let length = if right > 0 && rng.bit() {
+            right - 1
+        } else {
+            right + 1
+        };
         request.b.resize(length, 1);
     }
-    if has(set, 13) {
+    if has(13) {
         request.r = wrong_check(rng, &request.a) as u16;
     }
-    if has(set, 12) {
+    if has(12) {
         for _ in 0..rng.within(1, 2) {
             let i = rng.below(request.a.len() / RECORD_BYTES);
-            spoil_somehow(rng, &mut request.a, i);
+            if has(19) {
+                spoil_frozen(rng, &mut request.a, i);
+            } else {
+                spoil_somehow(rng, &mut request.a, i);
+            }
         }
     }
-    if has(set, 11) {
+    if has(11) {
         wrong_length(rng, &mut request);
     }
     request
+}
+
+/// Another sheet of the same N, with no free position; K - r is 0 without a check.
+fn free_nothing(rng: &mut Rng, request: &mut Request) {
+    request.a = none_free(rng, request.n.into());
+    request.r = 0;
+    match request.op {
+        1 => request.b.clear(),
+        3 => request.o = 0,
+        _ => {}
+    }
 }
 
 /// A check length that is none, or is not below K.
@@ -92,15 +131,15 @@ fn wrong_length(rng: &mut Rng, request: &mut Request) {
     }
 }
 
-/// Every set of the faults 11 to 16.
-fn sets(mut rng: Rng, largest: u8, make: Maker) -> Vec<Request> {
+/// A request for each of the sets.
+fn some_sets(mut rng: Rng, largest: u8, make: Maker) -> Vec<Request> {
     let mut list = Vec::new();
     for n in 0..=LARGEST_EXPONENT {
-        for set in 0..1 << 6 {
+        for set in sets() {
             let r = rng.pick(&CHECKS);
             let code = Code::any(&mut rng, n, suited(n, r));
             let good = make(&mut rng, &code);
-            list.push(put(&mut rng, good, set, largest));
+            list.push(put(&mut rng, good, &set, largest));
         }
     }
     list
@@ -165,10 +204,12 @@ fn wrong_checks(mut rng: Rng, make: Maker) -> Vec<Request> {
     list
 }
 
-/// K = 1, r - 1 and r under a check, as far as N allows it.
+/// K = 1 without a check, which is enough; K = 1, r - 1 and r under one, as far as N allows it.
 fn small_k(mut rng: Rng, make: Maker) -> Vec<Request> {
     let mut list = Vec::new();
     for n in 0..=LARGEST_EXPONENT {
+        let code = Code::new(&mut rng, n, 0, 1, STYLES[3]);
+        list.push(make(&mut rng, &code));
         for r in [6, 11] {
             for k in [1, r - 1, r].into_iter().filter(|&k| k <= 1 << n) {
                 let code = Code::new(&mut rng, n, 0, k, STYLES[3]);
@@ -226,6 +267,28 @@ fn rooms(mut rng: Rng, make: Maker) -> Vec<Request> {
         for o in [0, exact - 1, exact, exact + 1, exact + 7, 2 * exact + 3] {
             let mut request = make(&mut rng, &code);
             request.o = o;
+            list.push(request);
+        }
+    }
+    list
+}
+
+/// No free position, under every check length: of the scope and not; and with a bad record.
+fn no_free_position(mut rng: Rng, make: Maker) -> Vec<Request> {
+    let mut list = Vec::new();
+    for n in 0..=LARGEST_EXPONENT {
+        for r in any_checks() {
+            let code = Code::any(&mut rng, n, 0);
+            let mut request = make(&mut rng, &code);
+            free_nothing(&mut rng, &mut request);
+            request.r = r as u16;
+            list.push(request);
+        }
+        for i in first_middle_last(1 << n) {
+            let code = Code::any(&mut rng, n, 0);
+            let mut request = make(&mut rng, &code);
+            free_nothing(&mut rng, &mut request);
+            spoil_frozen(&mut rng, &mut request.a, i);
             list.push(request);
         }
     }

@@ -3,7 +3,8 @@
 
 use crate::limits::{LARGEST_EXPONENT, RECORD_BYTES};
 use crate::make::{
-    any_codeword, bytes, every_sheet, faults_at, frozen_at, good, spoil, Style, STYLES,
+    any_codeword, bytes, every_sheet, faults_at, frozen_at, frozen_faults_at, good, spoil, Style,
+    STYLES,
 };
 use crate::protocol::Request;
 use crate::rng::Rng;
@@ -17,20 +18,48 @@ pub const WRONG_CHECKS: [usize; 18] = [
     1, 2, 3, 4, 5, 7, 8, 9, 10, 12, 13, 17, 255, 256, 262, 267, 1536, 65535,
 ];
 
+/// The check lengths of the scope, then those that are not.
+pub fn any_checks() -> Vec<usize> {
+    [&CHECKS[..], &WRONG_CHECKS].concat()
+}
+
 pub fn any_style(rng: &mut Rng) -> Style {
     rng.pick(&STYLES)
 }
 
-/// A good sheet of N = 2^n records with any K.
+/// A sheet of N = 2^n records that keep every rule, with any K, 0 too.
 pub fn any_sheet(rng: &mut Rng, n: usize) -> Vec<u8> {
     let k = rng.within(0, 1 << n);
     let style = any_style(rng);
     good(rng, 1 << n, k, style)
 }
 
+/// A sheet of N = 2^n records that keep every rule, with no free position.
+pub fn none_free(rng: &mut Rng, n: usize) -> Vec<u8> {
+    let style = any_style(rng);
+    good(rng, 1 << n, 0, style)
+}
+
+/// Every such sheet of one and of two symbols, with its n.
+pub fn every_none_free() -> Vec<(usize, Vec<u8>)> {
+    [0, 1]
+        .into_iter()
+        .flat_map(|n| every_sheet(1 << n).into_iter().map(move |sheet| (n, sheet)))
+        .filter(|(_, records)| records.iter().all(|record| record.frozen))
+        .map(|(n, records)| (n, bytes(&records)))
+        .collect()
+}
+
 /// Spoils record i by any fault it can have.
 pub fn spoil_somehow(rng: &mut Rng, sheet: &mut [u8], i: usize) {
     let faults = faults_at(sheet.len() / RECORD_BYTES, i);
+    let fault = rng.pick(&faults);
+    spoil(rng, sheet, i, fault);
+}
+
+/// Spoils the frozen record i by any fault that leaves it frozen.
+pub fn spoil_frozen(rng: &mut Rng, sheet: &mut [u8], i: usize) {
+    let faults = frozen_faults_at(sheet.len() / RECORD_BYTES, i);
     let fault = rng.pick(&faults);
     spoil(rng, sheet, i, fault);
 }
@@ -112,11 +141,12 @@ impl Code {
 
     /// Every code of one and of two symbols, and some of four, without a check.
     pub fn small() -> Vec<Code> {
-        [(0, 1), (1, 1), (2, 75)]
+        [(0, 1), (1, 1), (2, 41)]
             .into_iter()
             .flat_map(|(n, step)| {
-                let sheets = every_sheet(1 << n).into_iter().step_by(step);
-                sheets.map(move |records| Code {
+                let sheets = every_sheet(1 << n).into_iter();
+                let good = sheets.filter(|records| records.iter().any(|record| !record.frozen));
+                good.step_by(step).map(move |records| Code {
                     n,
                     r: 0,
                     sheet: bytes(&records),

@@ -2,10 +2,10 @@
 // or both.
 
 use super::faults;
-use super::parts::{choices, first_middle_last, room, Code};
+use super::parts::{choices, every_none_free, first_middle_last, none_free, room, Code};
 use crate::code::transform;
 use crate::limits::LARGEST_EXPONENT;
-use crate::make::{bits, every_word, STYLES};
+use crate::make::{bits, every_word, only_word, STYLES};
 use crate::protocol::Request;
 use crate::rng::Rng;
 
@@ -181,20 +181,26 @@ fn small_codes() -> Vec<Request> {
     list
 }
 
-/// No free position: one codeword, whose payload is empty and needs no room.
+/// No free position: refused, whether or not the word keeps every rule; every word of one and of
+/// two symbols, and for every N the word that does and another.
 fn no_payload() -> Vec<Request> {
     let mut rng = Rng::new(318);
     let mut list = Vec::new();
-    for n in 0..=LARGEST_EXPONENT {
-        for style in STYLES {
-            let code = Code::new(&mut rng, n, 0, 0, style);
-            let word = code.codeword(&mut rng);
-            let place = rng.below(1 << n);
-            let mut other = word.clone();
-            other[place] ^= 1;
-            list.push(read_back(&mut rng, &code, word, 0));
-            list.push(read_in_room(&mut rng, &code, other));
+    for (n, sheet) in every_none_free() {
+        let code = Code { n, r: 0, sheet };
+        for word in every_word(code.length(), 2) {
+            let o = room(&mut rng, 0);
+            list.push(read_back(&mut rng, &code, word, o));
         }
+    }
+    for n in 0..=LARGEST_EXPONENT {
+        let sheet = none_free(&mut rng, n);
+        let code = Code { n, r: 0, sheet };
+        let word = only_word(n, &code.sheet);
+        let mut other = word.clone();
+        other[rng.below(1 << n)] ^= 1;
+        list.push(read_back(&mut rng, &code, word, 0));
+        list.push(read_back(&mut rng, &code, other, 1));
     }
     list
 }

@@ -1,7 +1,10 @@
 // Op 0, check_sheet: every refusal and every rule of a record at every place.
 // Each list has its own seed, so that a new list changes no other.
 
-use super::parts::{any_sheet, any_style, spoil_somehow, CHECKS, WRONG_CHECKS};
+use super::parts::{
+    any_checks, any_sheet, any_style, first_middle_last, none_free, spoil_frozen, spoil_somehow,
+    Code, CHECKS, WRONG_CHECKS,
+};
 use crate::limits::{LARGEST_EXPONENT, MASK_BYTES, RECORD_BYTES};
 use crate::make::{bytes, faults_at, good, name, spoil, Fault, STYLES};
 use crate::protocol::Request;
@@ -61,7 +64,7 @@ fn lengths() -> Vec<Request> {
             right + RECORD_BYTES,
             2 * right,
         ] {
-            let mut sheet = any_sheet(&mut rng, n);
+            let mut sheet = Code::any(&mut rng, n, 0).sheet;
             sheet.resize(length, 0);
             list.push(check_sheet(&mut rng, n, sheet, 0));
         }
@@ -110,7 +113,7 @@ fn large_exponents() -> Vec<Request> {
     list
 }
 
-/// Good sheets of every N, style and check length; with a check, K above r where N allows it.
+/// Good sheets of every N, style and check length: K above r where N allows it.
 fn good_sheets() -> Vec<Request> {
     let mut rng = Rng::new(3);
     let mut list = Vec::new();
@@ -119,7 +122,7 @@ fn good_sheets() -> Vec<Request> {
             for style in STYLES {
                 for _ in 0..if n < 6 { 6 } else { 5 } {
                     let least = (r + 1).min(1 << n);
-                    let k = rng.within(if r == 0 { 0 } else { least }, 1 << n);
+                    let k = rng.within(least, 1 << n);
                     let sheet = good(&mut rng, 1 << n, k, style);
                     list.push(check_sheet(&mut rng, n, sheet, r));
                 }
@@ -129,7 +132,8 @@ fn good_sheets() -> Vec<Request> {
     list
 }
 
-/// All free; all frozen; every record but the first naming the one before it, or all before it.
+/// All free; all frozen, plain, each naming the one before it, or all before it; and these with the
+/// first or the last position free.
 fn full_sheets() -> Vec<Request> {
     let mut rng = Rng::new(4);
     let mut list = Vec::new();
@@ -139,14 +143,22 @@ fn full_sheets() -> Vec<Request> {
             constant: i % 3 == 1,
             named,
         };
-        let sheets: [Vec<Record>; 4] = [
-            vec![Record::default(); 1 << n],
+        let frozen_sheets: [Vec<Record>; 3] = [
             (0..1 << n).map(|i| frozen(i, Vec::new())).collect(),
             (0..1 << n)
                 .map(|i| frozen(i, (i.max(1) - 1..i).collect()))
                 .collect(),
             (0..1 << n).map(|i| frozen(i, (0..i).collect())).collect(),
         ];
+        let mut sheets = vec![vec![Record::default(); 1 << n]];
+        for sheet in frozen_sheets {
+            for free in [0, (1 << n) - 1] {
+                let mut other = sheet.clone();
+                other[free] = Record::default();
+                sheets.push(other);
+            }
+            sheets.push(sheet);
+        }
         for records in sheets {
             for r in CHECKS {
                 list.push(check_sheet(&mut rng, n, bytes(&records), r));
@@ -272,23 +284,33 @@ fn wrong_checks() -> Vec<Request> {
     let mut list = Vec::new();
     for r in WRONG_CHECKS {
         for n in [0, 3, 5, LARGEST_EXPONENT] {
-            let sheet = any_sheet(&mut rng, n);
+            let sheet = Code::any(&mut rng, n, 0).sheet;
             list.push(check_sheet(&mut rng, n, sheet, r));
         }
     }
     list
 }
 
-/// K = 0, r - 1, r and r + 1, as far as N allows it; K = 0 also without a check.
+/// K = 0 under every check length, of the scope and not, and with a bad record; K = 1 without a
+/// check; K = 1, r - 1, r and r + 1 under one, as far as N allows it.
 fn small_k() -> Vec<Request> {
     let mut rng = Rng::new(11);
     let mut list = Vec::new();
     for n in 0..=LARGEST_EXPONENT {
+        for r in any_checks() {
+            let sheet = none_free(&mut rng, n);
+            list.push(check_sheet(&mut rng, n, sheet, r));
+        }
+        for i in first_middle_last(1 << n) {
+            let mut sheet = none_free(&mut rng, n);
+            spoil_frozen(&mut rng, &mut sheet, i);
+            list.push(check_sheet(&mut rng, n, sheet, 0));
+        }
         for style in STYLES {
-            let sheet = good(&mut rng, 1 << n, 0, style);
+            let sheet = good(&mut rng, 1 << n, 1, style);
             list.push(check_sheet(&mut rng, n, sheet, 0));
             for r in [6, 11] {
-                for k in [0, r - 1, r, r + 1] {
+                for k in [1, r - 1, r, r + 1] {
                     if k <= 1 << n {
                         let sheet = good(&mut rng, 1 << n, k, style);
                         list.push(check_sheet(&mut rng, n, sheet, r));
@@ -300,30 +322,38 @@ fn small_k() -> Vec<Request> {
     list
 }
 
-/// Several refusals apply at once, in every combination of 11 (two ways), 12 and 13 (two ways).
+/// Several refusals apply at once, in every combination of 11 (two ways), 12, 19 and 13 (two ways).
 fn refusal_order() -> Vec<Request> {
     let mut rng = Rng::new(12);
     let mut list = Vec::new();
     for n in 0..=LARGEST_EXPONENT {
         for length_fault in 0..3 {
             for bad_record in [false, true] {
-                for r in [0, 11, 5] {
-                    let k = if r == 11 { 11.min(1 << n) } else { 1 };
-                    let style = any_style(&mut rng);
-                    let mut sheet = good(&mut rng, 1 << n, k, style);
-                    if bad_record {
+                for all_frozen in [false, true] {
+                    for r in [0, 11, 5] {
+                        let k = match (all_frozen, r) {
+                            (true, _) => 0,
+                            (_, 11) => 11.min(1 << n),
+                            _ => 1,
+                        };
+                        let style = any_style(&mut rng);
+                        let mut sheet = good(&mut rng, 1 << n, k, style);
                         let i = rng.below(1 << n);
-                        spoil_somehow(&mut rng, &mut sheet, i);
+                        match (bad_record, all_frozen) {
+                            (true, true) => spoil_frozen(&mut rng, &mut sheet, i),
+                            (true, false) => spoil_somehow(&mut rng, &mut sheet, i),
+                            _ => {}
+                        }
+                        if length_fault == 1 {
+                            sheet.push(0);
+                        }
+                        let past = if length_fault == 2 {
+                            LARGEST_EXPONENT + 1
+                        } else {
+                            0
+                        };
+                        list.push(check_sheet(&mut rng, n + past, sheet, r));
                     }
-                    if length_fault == 1 {
-                        sheet.push(0);
-                    }
-                    let past = if length_fault == 2 {
-                        LARGEST_EXPONENT + 1
-                    } else {
-                        0
-                    };
-                    list.push(check_sheet(&mut rng, n + past, sheet, r));
                 }
             }
         }

@@ -1,10 +1,13 @@
 // Op 4, stream: inputs of whole and cut-off words, sheets and choices of wrong lengths, words
-// refused one by one, and rooms at the edge.
+// refused one by one, sheets with no free position, and rooms at the edge.
 
-use super::parts::{any_style, choices, first_middle_last, spoil_somehow, symbols, Code};
+use super::parts::{
+    any_checks, any_style, choices, every_none_free, first_middle_last, none_free, spoil_frozen,
+    spoil_somehow, symbols, Code,
+};
 use crate::calls::ANSWER_BYTES;
 use crate::limits::{LARGEST_EXPONENT, RECORD_BYTES};
-use crate::make::{bits, damaged, every_word};
+use crate::make::{bits, damaged, every_word, only_word};
 use crate::protocol::{Request, INPUT_ROOM, OUTPUT_ROOM};
 use crate::rng::Rng;
 
@@ -18,6 +21,7 @@ pub fn all() -> Vec<Request> {
         several_words(),
         small_codes(),
         refused_words(),
+        no_free_position(),
         rooms(),
         longest(),
     ]
@@ -247,6 +251,58 @@ fn refused_words() -> Vec<Request> {
             let request = stream(&mut rng, code.sheet, vec![r, ceiling], input);
             list.push(in_a_room(&mut rng, request));
         }
+    }
+    list
+}
+
+/// No free position: a record of its own for each word, the cut-off last one too, and none for an
+/// empty input, under right and wrong choices, with a bad symbol and without; the same with a bad
+/// record at the end; one record where the choice or the sheet is of a wrong length.
+fn no_free_position() -> Vec<Request> {
+    let mut rng = Rng::new(410);
+    let mut list = Vec::new();
+    for (n, sheet) in every_none_free() {
+        let input = every_word(1 << n, 3).concat();
+        list.push(stream(&mut rng, sheet, vec![0, 63], input));
+    }
+    let checks: Vec<u8> = (any_checks().into_iter())
+        .filter_map(|r| r.try_into().ok())
+        .collect();
+    for n in 0..=LARGEST_EXPONENT {
+        let sheet = none_free(&mut rng, n);
+        let word = only_word(n, &sheet);
+        let mut input = Vec::new();
+        for losses in [0, 4, 8] {
+            input.extend(damaged(&mut rng, &word, losses));
+        }
+        let other = bits(&mut rng, 1 << n);
+        input.extend(&other[..rng.within(1, ((1 << n) - 1).max(1))]);
+        let mut strange = input.clone();
+        strange[rng.below(input.len())] = 3;
+        let mut bad_sheet = sheet.clone();
+        spoil_frozen(&mut rng, &mut bad_sheet, (1 << n) - 1);
+        let mut long_sheet = sheet.clone();
+        long_sheet.extend([1; 3]);
+        let wrong = rng.pick(&checks[3..]);
+        for (sheet, choice, input) in [
+            (&sheet, &[6, 0][..], &input),
+            (&sheet, &[11, 64], &strange),
+            (&sheet, &[wrong, 255], &strange),
+            (&sheet, &[0, 63], &Vec::new()),
+            (&sheet, &[0], &input),
+            (&sheet, &[0, 63, 0], &Vec::new()),
+            (&bad_sheet, &[0, 63], &input),
+            (&long_sheet, &[0, 63], &input),
+        ] {
+            list.push(stream(
+                &mut rng,
+                sheet.clone(),
+                choice.to_vec(),
+                input.clone(),
+            ));
+        }
+        let request = stream(&mut rng, sheet, vec![0, 63], input);
+        list.extend(in_rooms(request));
     }
     list
 }

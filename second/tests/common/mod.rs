@@ -39,7 +39,7 @@ pub fn numbers(code: u16, place: u16, g: u16, m: u16, d: u16) -> Answer {
 
 /// A good sheet of any style whose K is above r, as bytes and as read.
 pub fn any_sheet(rng: &mut Rng, n: usize, r: usize) -> (Vec<u8>, Sheet) {
-    let k = rng.within(if r == 0 { 0 } else { r + 1 }, 1 << n);
+    let k = rng.within(r + 1, 1 << n);
     let style = STYLES[rng.below(STYLES.len())];
     let bytes = good(rng, 1 << n, k, style);
     let sheet = Sheet::read(n, &bytes, r).expect("a good sheet");
