@@ -11,7 +11,7 @@ use mathlib.Core.Bool.{Bool, true, false}
 use mathlib.Core.List.{List, [], _∷_, _++_, map, List·Memᴰ, List·Memᴰ·head, List·Memᴰ·tail}
 use lib.ListN.{length, length-append, length-drop, length-map}
 use lib.Dec.{ltb}
-use borrow.Author.Tests.{ltb-true, ltb-false, lt-ltb, eqb-true, not-false}
+use borrow.Author.Tests.{ltb-true, lt-ltb, eqb-true, not-false}
 use Rattle.bits.specs.Vectors.{bit, pick, ones, firstPlace}
 use Rattle.bits.proofs.Tests.{length-tab}
 use Rattle.meaning.specs.Limits.{largestN}
