@@ -33,10 +33,11 @@ pub fn check_sheet(n: usize, sheet: &[u8], r: usize) -> Answer
         return Answer::BadRecord { place };
     }
     let k = count_free(sheet);
+    let bad = sheet::bad_check(r, k);
     if k == 0 {
         return Answer::HoldsNothing;
     }
-    if sheet::bad_check(r, k) {
+    if bad {
         return Answer::BadCheck;
     }
     Answer::Done

@@ -1,5 +1,5 @@
 -- Sheets that hold nothing, and those that hold something.
---     nothing-checked, nothing-encoded, nothing-read, nothing-decoded     a sheet whose records are right and whose K is 0 gets 19, whatever else is handed in
+--     nothing-checked, nothing-encoded, nothing-read, nothing-decoded     a sheet of right length and records whose K is 0 gets 19, whatever else is handed in
 --     payload-held         a sheet that is not refused has a payload of one bit or more
 --     lost-several         and, where every symbol is lost, two codewords or more that agree
 --     lost-not-unique      so that no such word is called unique

@@ -3,11 +3,12 @@
 
 use super::faults;
 use super::parts::{
-    choices, every_none_free, first_middle_last, none_free, room, suited, symbols, Code, CHECKS,
+    choices, every_none_free, first_middle_last, none_free_words, room, suited, symbols, Code,
+    CHECKS,
 };
 use crate::code::ERASED;
 use crate::limits::{LARGEST_CEILING, LARGEST_EXPONENT};
-use crate::make::{bits, bytes, damaged, every_word, only_word, STYLES};
+use crate::make::{bits, bytes, damaged, every_word, STYLES};
 use crate::open;
 use crate::protocol::Request;
 use crate::rng::Rng;
@@ -227,11 +228,7 @@ fn no_free_position() -> Vec<Request> {
         }
     }
     for n in 0..=LARGEST_EXPONENT {
-        let sheet = none_free(&mut rng, n);
-        let code = Code { n, r: 0, sheet };
-        let word = only_word(n, &code.sheet);
-        let mut other = word.clone();
-        other[rng.below(1 << n)] ^= 1;
+        let (code, word, other) = none_free_words(&mut rng, n);
         for losses in [0, 4, 8] {
             let word = damaged(&mut rng, &word, losses);
             for ceiling in [0, LARGEST_CEILING] {

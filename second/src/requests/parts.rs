@@ -3,8 +3,8 @@
 
 use crate::limits::{LARGEST_EXPONENT, RECORD_BYTES};
 use crate::make::{
-    any_codeword, bytes, every_sheet, faults_at, frozen_at, frozen_faults_at, good, spoil, Style,
-    STYLES,
+    any_codeword, bytes, every_sheet, faults_at, frozen_at, frozen_faults_at, good, only_word,
+    spoil, Style, STYLES,
 };
 use crate::protocol::Request;
 use crate::rng::Rng;
@@ -38,6 +38,15 @@ pub fn any_sheet(rng: &mut Rng, n: usize) -> Vec<u8> {
 pub fn none_free(rng: &mut Rng, n: usize) -> Vec<u8> {
     let style = any_style(rng);
     good(rng, 1 << n, 0, style)
+}
+
+/// A code of such a sheet, the word that keeps every rule of it, and one that does not.
+pub fn none_free_words(rng: &mut Rng, n: usize) -> (Code, Vec<u8>, Vec<u8>) {
+    let sheet = none_free(rng, n);
+    let word = only_word(n, &sheet);
+    let mut other = word.clone();
+    other[rng.below(1 << n)] ^= 1;
+    (Code { n, r: 0, sheet }, word, other)
 }
 
 /// Every such sheet of one and of two symbols, with its n.

@@ -2,10 +2,10 @@
 // or both.
 
 use super::faults;
-use super::parts::{choices, every_none_free, first_middle_last, none_free, room, Code};
+use super::parts::{choices, every_none_free, first_middle_last, none_free_words, room, Code};
 use crate::code::transform;
 use crate::limits::LARGEST_EXPONENT;
-use crate::make::{bits, every_word, only_word, STYLES};
+use crate::make::{bits, every_word, STYLES};
 use crate::protocol::Request;
 use crate::rng::Rng;
 
@@ -194,11 +194,7 @@ fn no_payload() -> Vec<Request> {
         }
     }
     for n in 0..=LARGEST_EXPONENT {
-        let sheet = none_free(&mut rng, n);
-        let code = Code { n, r: 0, sheet };
-        let word = only_word(n, &code.sheet);
-        let mut other = word.clone();
-        other[rng.below(1 << n)] ^= 1;
+        let (code, word, other) = none_free_words(&mut rng, n);
         list.push(read_back(&mut rng, &code, word, 0));
         list.push(read_back(&mut rng, &code, other, 1));
     }

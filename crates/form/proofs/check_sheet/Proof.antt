@@ -36,37 +36,37 @@ returns-3 c =
 count-free-requires : tie.Need-count-free-requires
 count-free-requires c κs = search needs
 
+bad-check-requires : tie.Need-bad-check-requires
+bad-check-requires c κs = search needs
+
 returns-4 : tie.Need-returns-4
 unfolding largestN recordBytes maskBytes
 returns-4 c =
-    let count = c .before in
+    let count = c .before .before in
     let call = count .before .before in
     let size = call .before .before in
     holds-nothing _ _ _ _ (size .before .if1 .left) (size .size-of .ensures) (call .before .if2 .left) _ (call .first-bad .ensures) (count .before .if3 .left)
     _ (count .count-free .ensures) (c .if4 .taken)
 
-bad-check-requires : tie.Need-bad-check-requires
-bad-check-requires c κs = search needs
-
 returns-5 : tie.Need-returns-5
 unfolding largestN recordBytes maskBytes
 returns-5 c =
-    let some = c .before .before in
-    let count = some .before in
+    let check = c .before .before in
+    let count = check .before in
     let call = count .before .before in
     let size = call .before .before in
     bad-check _ _ _ _ (size .before .if1 .left) (size .size-of .ensures) (call .before .if2 .left) _ (call .first-bad .ensures) (count .before .if3 .left)
-    _ (count .count-free .ensures) (some .if4 .left) _ (c .before .bad-check .ensures) (c .if5 .taken)
+    _ (count .count-free .ensures) (c .before .if4 .left) _ (check .bad-check .ensures) (c .if5 .taken)
 
 returns-6 : tie.Need-returns-6
 unfolding largestN recordBytes maskBytes
 returns-6 c =
-    let some = c .before .before in
-    let count = some .before in
+    let check = c .before .before in
+    let count = check .before in
     let call = count .before .before in
     let size = call .before .before in
     done _ _ _ _ (size .before .if1 .left) (size .size-of .ensures) (call .before .if2 .left) _ (call .first-bad .ensures) (count .before .if3 .left)
-    _ (count .count-free .ensures) (some .if4 .left) _ (c .before .bad-check .ensures) (c .if5 .left)
+    _ (count .count-free .ensures) (c .before .if4 .left) _ (check .bad-check .ensures) (c .if5 .left)
 
 pub check-sheet-spec : {M : Type 1} → statement M
 check-sheet-spec =
@@ -79,7 +79,7 @@ check-sheet-spec =
     first-bad-requires
     returns-3
     count-free-requires
-    returns-4
     bad-check-requires
+    returns-4
     returns-5
     returns-6)
