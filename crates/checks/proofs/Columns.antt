@@ -22,7 +22,7 @@ use Rattle.meaning.specs.Sheet.{rules}
 use Rattle.model.specs.Related.{Along, nil, cons, Bound}
 use Rattle.model.proofs.Relate.{along-length, checks-bound}
 use Rattle.ruling.specs.Values.{rowValues}
-use Rattle.checks.specs.Registers.{wordValues, column, remainder, Put, ColumnsUpTo}
+use Rattle.checks.specs.Registers.{wordValues, unitWord, column, remainder, Put, ColumnsUpTo}
 use Rattle.checks.specs.Checking.{checkOf}
 use Rattle.checks.proofs.Shifting.{checks-is, length-remainder}
 
@@ -90,18 +90,14 @@ pub columns-last : (r w : ℕ) (f : ℕ → List ℕ) (k : ℕ) (e : List ℕ) �
 columns-last r w f k e h p j q hj hq = p j q hj (omega arith)
 
 -- for a register whose length is known as r
-pub columns-long : (l r : ℕ) (sheet : List ℕ) (n : ℕ) (us : List ℕ) (w : ℕ) (e : List ℕ) → l ≡ r → ColumnsUpTo l w (remainder l sheet n us w) w e → ColumnsUpTo r w (remainder r sheet n us w) w e
-columns-long l r sheet n us w e q p = subst (λ (x : ℕ). ColumnsUpTo x w (remainder x sheet n us w) w e) q p
+pub columns-long : (l r : ℕ) (sheet : List ℕ) (n : ℕ) (us : List ℕ) (w c : ℕ) (e : List ℕ) → l ≡ r → ColumnsUpTo l w (remainder l sheet n us w c) w e → ColumnsUpTo r w (remainder r sheet n us w c) w e
+columns-long l r sheet n us w c e q p = subst (λ (x : ℕ). ColumnsUpTo x w (remainder x sheet n us w c) w e) q p
 
 -- ---- column k of the check's rows
 
 -- word k of a row of w words
 abbrev pub WordOf : ℕ → ℕ → Row → ℕ → Type 0
 WordOf w k x a = (getD x k 0 ≡ a) × (length x ≡ w)
-
--- word k of the constant's row
-abbrev unitWord : ℕ → ℕ → ℕ
-unitWord c k = bit (eqb k c)
 
 word-bound : (c w k : ℕ) → c < w → k < w → Bound (WordOf w k) 0 (rowValues c w) (wordValues (unitWord c k))
 word-bound c w k hc hk =
@@ -131,7 +127,7 @@ along-wide nil = tt
 along-wide (cons h t) = (h .1, along-wide t)
 
 module _ (n : ℕ) (sheet : List ℕ) (r c w : ℕ) (us : List ℕ) (hc : c < w) (lu : length us ≡ 2 ^ n * w) where
-  pub column-bound : (k : ℕ) → k < w → Along (WordOf w k) (checkOf n sheet r c w us) (remainder r sheet (2 ^ n) us w k)
+  pub column-bound : (k : ℕ) → k < w → Along (WordOf w k) (checkOf n sheet r c w us) (remainder r sheet (2 ^ n) us w c k)
   unfolding remainder rules
   column-bound k hk =
       subst (Along (WordOf w k) (checkOf n sheet r c w us)) (checks-is (unitWord c k) r (rules n sheet) (column w (2 ^ n) us k))
@@ -139,13 +135,13 @@ module _ (n : ℕ) (sheet : List ℕ) (r c w : ℕ) (us : List ℕ) (hc : c < w)
       (along-tab (2 ^ n) (row w us) (λ (i : ℕ). getD us (i * w + k) 0) (λ i h. (getD-part us (i * w) w k hk, length-part us (i * w) w (let f = row-fit i (2 ^ n) w h in omega arith)))))
 
   pub length-check : length (checkOf n sheet r c w us) ≡ r
-  length-check = along-length (column-bound c hc) ∙ length-remainder r sheet (2 ^ n) us w c
+  length-check = along-length (column-bound c hc) ∙ length-remainder r sheet (2 ^ n) us w c c
 
   pub check-wide : Wide w (checkOf n sheet r c w us)
   check-wide = along-wide (column-bound c hc)
 
   -- where all columns are the registers', the words are the check's rows
-  pub columns-all : (e : List ℕ) → length e ≡ r * w → ColumnsUpTo r w (remainder r sheet (2 ^ n) us w) w e → e ≡ flatten (checkOf n sheet r c w us)
+  pub columns-all : (e : List ℕ) → length e ≡ r * w → ColumnsUpTo r w (remainder r sheet (2 ^ n) us w c) w e → e ≡ flatten (checkOf n sheet r c w us)
   columns-all e l p =
       sym (take-all (r * w) e (omega arith)) ∙ sym (flatten-rows w r e)
       ∙ ap flatten (sym (ap (λ (m : ℕ). rows w m e) length-check) ∙ tab-getD (checkOf n sheet r c w us) [] (row w e) same)

@@ -45,12 +45,12 @@ module _ (n : ℕ) (sheet : List ℕ) (r c w : ℕ) (us : List ℕ) (m : ℕ) (e
   left-alone h = rw h
 
   pub appended : checkFits n (length sheet) r c w (length us) m (length eqs) ≡ true → (size : ℕ) → size ≡ 2 ^ n → (e : List ℕ) → length e ≡ r * w
-      → ColumnsUpTo r w (remainder r sheet size us w) w e → checked true (putMid (m * w) ((m + r) * w - m * w) eqs e) ≡ checking n sheet r c w us m eqs
+      → ColumnsUpTo r w (remainder r sheet size us w c) w e → checked true (putMid (m * w) ((m + r) * w - m * w) eqs e) ≡ checking n sheet r c w us m eqs
   unfolding checking
   appended h size q e l p =
       let R = ready n (length sheet) r c w (length us) m (length eqs) h in
       let s = part-size m r w in
-      let x : e ≡ flatten (checkOf n sheet r c w us) = columns-all n sheet r c w us (R .constant) (R .rows-u) e l (subst (λ (k : ℕ). ColumnsUpTo r w (remainder r sheet k us w) w e) q p) in
+      let x : e ≡ flatten (checkOf n sheet r c w us) = columns-all n sheet r c w us (R .constant) (R .rows-u) e l (subst (λ (k : ℕ). ColumnsUpTo r w (remainder r sheet k us w c) w e) q p) in
       let y : drop ((m + r) * w - m * w) (drop (m * w) eqs) ≡ drop ((m + r) * w) eqs = post-is (m * w) ((m + r) * w) eqs (omega arith) in
       rw h
       (ap (checked true)

@@ -3,6 +3,7 @@
 --     fed-is, checks-is        the code's register is the model's, over words
 --     fed-tap, fed-kept        one place of the register, by the tap there
 --     Shifted, shifted-..      the register with its first words new
+--     Started, started-..      the register with its first words set
 --     Dividing, dividing-..    the free positions of a column, fed so far
 use mathlib.Core.Path.{_≡_, refl, sym, ap, ap₂, _∙_}
 use Prim.Native.Nat.{ℕ, zero, suc, _+_, _-_, _*_, _/_, _%_, _^_, _≤_, _<_}
@@ -10,22 +11,21 @@ use native.Mathlib.Omega.{arith}
 use native.Mathlib.Nat.{zero-div}
 use native.Mathlib.Numerals.{add-one}
 use mathlib.Core.Bool.{Bool, true, false}
-use mathlib.Core.List.{List, [], _∷_, _++_, append-nil}
-use lib.ListN.{length-set, List·getD-append, length, take, drop, getD, set, replicate, length-append, length-map, length-replicate, drop-of-length-le}
-use lib.Seq.{getD-append-add, getD-drop, getD-at, ext-getD, drop-cons, take-suc, take-all, append-snoc, set-at, length-take-le}
+use mathlib.Core.List.{List, [], _∷_, _++_, append-nil, append-assoc}
+use lib.ListN.{length-set, List·getD-append, length, take, drop, getD, set, replicate, length-append, length-map, length-replicate, replicate-append-replicate, drop-of-length-le}
+use lib.Seq.{getD-append-add, getD-drop, getD-at, ext-getD, drop-cons, take-suc, take-suc-set, take-all, append-snoc, set-at, length-take-le}
 use lib.Dec.{eqb, ltb}
 use lib.Bits.{bitXor, xor-zero-r}
 use borrow.Author.Tests.{eqb-true, ltb-true, ltb-false}
 use Rattle.bits.specs.Vectors.{pick, any, tab}
-use Rattle.bits.specs.Rows.{zeroed}
 use Rattle.bits.proofs.Tests.{length-tab, tab-at}
-use Rattle.bits.proofs.RowLaws.{row-fit, zeroed-fits, paste-all}
+use Rattle.bits.proofs.RowLaws.{row-fit}
 use Rattle.meaning.specs.Limits.{leads}
 use Rattle.meaning.specs.Sheet.{Rule, free, ruleAt, byte}
 use Rattle.meaning.specs.Check.{poly, terms}
 use Rattle.model.specs.Model.{freeOf, sums, scaled, shiftOf, restOf, checks}
 use Rattle.counting.proofs.Counting.{rule-free, rule-frozen}
-use Rattle.checks.specs.Registers.{wordValues, column, tapsOf, moved, fedAt, fed, fedAll, remainder}
+use Rattle.checks.specs.Registers.{wordValues, unitWord, column, tapsOf, moved, fedAt, fed, fedAll, remainder}
 
 -- ---- the polynomial
 
@@ -119,22 +119,42 @@ module _ (unit : ℕ) where
   rest-is r s [] e = refl
   rest-is r s (b ∷ v) e = ap (λ (x : List ℕ). restOf (wordValues unit) (poly r) x v) (fed-is r s b e) ∙ rest-is r (fed r s b) v (length-fed r s b)
 
-  -- the check has no leading bits: the one place of the crate where the value of `leads` is used. With bits, `divide` feeds them
-  -- first, each times word k of the constant's row (Columns.unitWord), and `remainder` starts with them
-  leads-none : (r : ℕ) (v : List ℕ) → scaled (wordValues unit) (leads r) unit ++ v ≡ v
+  -- the check's ones, over words: the one place of the crate where the value of `leads` is used
+  leads-are : (r : ℕ) → scaled (wordValues unit) (leads r) unit ≡ replicate r unit
   unfolding leads
-  leads-none r v = refl
+  leads-are zero = refl
+  leads-are (suc r) = ap {B = List ℕ} (λ l. unit ∷ l) (leads-are r)
 
-  pub checks-is : (r : ℕ) (ks : List Rule) (v : List ℕ) → checks (wordValues unit) r ks v ≡ fedAll r (replicate r 0) (freeOf ks v)
-  checks-is r ks v = ap (restOf (wordValues unit) (poly r) (replicate r 0)) (leads-none r (freeOf ks v)) ∙ rest-is r (replicate r 0) (freeOf ks v) (length-replicate r 0)
+  sums-nought : (x : List ℕ) (g : List Bool) → length x ≡ length g → sums (wordValues unit) x (scaled (wordValues unit) g 0) ≡ x
+  sums-nought [] g e = refl
+  sums-nought (a ∷ x) [] e = absurd (omega arith)
+  sums-nought (a ∷ x) (true ∷ g) e = ap₂ {C = List ℕ} _∷_ (xor-zero-r a) (sums-nought x g (omega arith))
+  sums-nought (a ∷ x) (false ∷ g) e = ap₂ {C = List ℕ} _∷_ (xor-zero-r a) (sums-nought x g (omega arith))
+
+  -- words that are shifted in below a run of zeros, as long as they are, stay
+  fills : (r : ℕ) (d l v : List ℕ) → length l + length d ≡ r → restOf (wordValues unit) (poly r) (replicate (length l) 0 ++ d) (l ++ v) ≡ restOf (wordValues unit) (poly r) (d ++ l) v
+  fills r d [] v e = ap (λ (s : List ℕ). restOf (wordValues unit) (poly r) s v) (sym (append-nil d))
+  fills r d (b ∷ l) v e =
+      let s : List ℕ = replicate (length l) 0 ++ d in
+      let ls : length (s ++ (b ∷ [])) ≡ length (poly r) = simp (length-append, length-replicate) (omega (arith, length-poly r)) in
+      ap (λ (t : List ℕ). restOf (wordValues unit) (poly r) t (l ++ v)) (sums-nought (s ++ (b ∷ [])) (poly r) ls ∙ append-assoc (replicate (length l) 0) d (b ∷ []))
+      ∙ fills r (d ++ (b ∷ [])) l v (simp length-append (omega arith)) ∙ ap (λ (t : List ℕ). restOf (wordValues unit) (poly r) t v) (append-assoc d (b ∷ []) l)
+
+  pub checks-is : (r : ℕ) (ks : List Rule) (v : List ℕ) → checks (wordValues unit) r ks v ≡ fedAll r (replicate r unit) (freeOf ks v)
+  checks-is r ks v =
+      let o : List ℕ = replicate r unit in
+      let lo : length o ≡ r = length-replicate r unit in
+      ap (λ (l : List ℕ). restOf (wordValues unit) (poly r) (replicate r 0) (l ++ freeOf ks v)) (leads-are r)
+      ∙ ap (λ (s : List ℕ). restOf (wordValues unit) (poly r) s (o ++ freeOf ks v)) (ap (λ (m : ℕ). replicate m 0) (sym lo) ∙ sym (append-nil (replicate (length o) 0)))
+      ∙ fills r [] o (freeOf ks v) (omega arith) ∙ rest-is r o (freeOf ks v) lo
 
 length-fedAll : (r : ℕ) (s v : List ℕ) → length s ≡ r → length (fedAll r s v) ≡ r
 length-fedAll r s [] e = e
 length-fedAll r s (b ∷ v) e = length-fedAll r (fed r s b) v (length-fed r s b)
 
-pub length-remainder : (r : ℕ) (sheet : List ℕ) (n : ℕ) (us : List ℕ) (w k : ℕ) → length (remainder r sheet n us w k) ≡ r
+pub length-remainder : (r : ℕ) (sheet : List ℕ) (n : ℕ) (us : List ℕ) (w c k : ℕ) → length (remainder r sheet n us w c k) ≡ r
 unfolding remainder
-length-remainder r sheet n us w k = length-fedAll r (replicate r 0) (freeOf (tab n (ruleAt sheet)) (column w n us k)) (length-replicate r 0)
+length-remainder r sheet n us w c k = length-fedAll r (replicate r (unitWord c k)) (freeOf (tab n (ruleAt sheet)) (column w n us k)) (length-replicate r (unitWord c k))
 
 -- ---- one place of the register, by the tap there
 
@@ -193,15 +213,32 @@ shifted-all s b reg j p h =
     let ln : length new ≡ length s = length-fed (length s) s b in
     p .is ∙ ap₂ (λ (x y : List ℕ). x ++ y) (take-all j new (omega arith)) (drop-of-length-le s {i = j} h) ∙ append-nil new
 
--- a register of zeros
-pub zeroed-all : (s reg : List ℕ) → reg ≡ zeroed s 0 (length s) → reg ≡ replicate (length reg) 0
-zeroed-all s reg e =
-    let q : reg ≡ replicate (length s) 0 = e ∙ zeroed-fits s 0 (length s) (omega arith) ∙ paste-all s (replicate (length s) 0) (length s) refl (length-replicate (length s) 0) in
-    q ∙ ap (λ (n : ℕ). replicate n 0) (sym (ap length q ∙ length-replicate (length s) 0))
+-- the register, its first j words x
+pub record Started (x : ℕ) (s reg : List ℕ) (j : ℕ) : Type 0 where
+  pub some : j ≤ length s
+  pub size : length reg ≡ length s
+  pub is : take j reg ≡ replicate j x
+
+pub started-next : (x : ℕ) (s reg : List ℕ) (j : ℕ) → Started x s reg j → j < length s → Started x s (set reg j x) (j + 1)
+started-next x s reg j p h =
+    record {
+      some = omega arith;
+      size = length-set reg j x ∙ p .size;
+      is = ap (λ (m : ℕ). take m (set reg j x)) (add-one j) ∙ take-suc-set reg j x (omega (arith, p .size)) ∙ ap (λ (l : List ℕ). l ++ (x ∷ [])) (p .is) ∙ replicate-append-replicate j 1 x;
+    }
+
+pub started-all : (x : ℕ) (s reg : List ℕ) (j : ℕ) → Started x s reg j → length s ≤ j → reg ≡ replicate (length s) x
+started-all x s reg j p h =
+    let e : j ≡ length s = omega (arith, p .some) in
+    sym (take-all j reg (omega (arith, p .size))) ∙ p .is ∙ ap (λ (m : ℕ). replicate m x) e
+
+-- a register that is all x, by its own length
+pub started-own : (m : ℕ) (reg : List ℕ) (x y : ℕ) → reg ≡ replicate m x → x ≡ y → reg ≡ replicate (length reg) y
+started-own m reg x y e q = e ∙ ap₂ (λ (l z : ℕ). replicate l z) (sym (ap length e ∙ length-replicate m x)) q
 
 -- ---- the free positions of a column, fed one after the other
 
-module _ (r : ℕ) (sheet : List ℕ) (n : ℕ) (us : List ℕ) (w k : ℕ) where
+module _ (r : ℕ) (sheet : List ℕ) (n : ℕ) (us : List ℕ) (w c k : ℕ) where
   abbrev ks : List Rule
   ks = tab n (ruleAt sheet)
 
@@ -212,11 +249,11 @@ module _ (r : ℕ) (sheet : List ℕ) (n : ℕ) (us : List ℕ) (w k : ℕ) wher
   pub record Dividing (reg : List ℕ) (i : ℕ) : Type 0 where
     pub some : i ≤ n
     pub size : length reg ≡ r
-    pub left : fedAll r reg (freeOf (drop i ks) (drop i vs)) ≡ remainder r sheet n us w k
+    pub left : fedAll r reg (freeOf (drop i ks) (drop i vs)) ≡ remainder r sheet n us w c k
 
-  pub dividing-none : (reg : List ℕ) → reg ≡ replicate r 0 → Dividing reg 0
+  pub dividing-none : (reg : List ℕ) → reg ≡ replicate r (unitWord c k) → Dividing reg 0
   unfolding remainder
-  dividing-none reg e = record { some = omega arith; size = ap length e ∙ length-replicate r 0; left = ap (λ (s : List ℕ). fedAll r s (freeOf ks vs)) e }
+  dividing-none reg e = record { some = omega arith; size = ap length e ∙ length-replicate r (unitWord c k); left = ap (λ (s : List ℕ). fedAll r s (freeOf ks vs)) e }
 
   -- where word k of row i is
   pub column-room : (i : ℕ) → length us ≡ n * w → k < w → i < n → i * w + k < length us
@@ -247,7 +284,7 @@ module _ (r : ℕ) (sheet : List ℕ) (n : ℕ) (us : List ℕ) (w k : ℕ) wher
         let cut : freeOf (drop i ks) (drop i vs) ≡ freeOf (drop (suc i) ks) (drop (suc i) vs) = rw (rules-at i h, rule-frozen sheet i t e z, words-at i h) in
         record { some = omega arith; size = p .size; left = rw (add-one i) (sym (ap (fedAll r reg) cut) ∙ p .left) }
 
-  pub dividing-all : (reg : List ℕ) (i : ℕ) → Dividing reg i → n ≤ i → reg ≡ remainder r sheet n us w k
+  pub dividing-all : (reg : List ℕ) (i : ℕ) → Dividing reg i → n ≤ i → reg ≡ remainder r sheet n us w c k
   dividing-all reg i p h =
       let a : drop i ks ≡ [] = drop-of-length-le ks {i = i} (omega (arith, length-tab n (ruleAt sheet))) in
       sym (ap (λ (l : List Rule). fedAll r reg (freeOf l (drop i vs))) a) ∙ p .left

@@ -1,5 +1,6 @@
 -- The check's shift register over machine words: one column of the rows, that is word k of each of them.
 --     wordValues unit      words as the decoder's values
+--     unitWord c k         word k of the constant's row
 --     column w n l k       word k of each of the first n rows of w words
 --     tapsOf r             the coefficients of the check polynomial, bit j for the j-th from D^(r-1) down
 --     fed r s b            the register s of r words once the word b went in
@@ -13,7 +14,7 @@ use mathlib.Core.List.{List, [], _∷_}
 use lib.ListN.{length, getD, replicate}
 use lib.Dec.{eqb, ltb}
 use lib.Bits.{bitXor}
-use Rattle.bits.specs.Vectors.{pick, tab}
+use Rattle.bits.specs.Vectors.{bit, pick, tab}
 use Rattle.meaning.specs.Sheet.{ruleAt}
 use Rattle.meaning.specs.Check.{poly}
 use Rattle.model.specs.Model.{Values, freeOf}
@@ -21,6 +22,9 @@ use Rattle.model.specs.Model.{Values, freeOf}
 -- a word of each row: sums by XOR, and the word that it has in the constant's row. The check hands out no unknowns
 abbrev pub wordValues : ℕ → Values ℕ
 wordValues unit = record { plus = bitXor; nought = 0; unit = unit; unknown = λ k. 0 }
+
+abbrev pub unitWord : ℕ → ℕ → ℕ
+unitWord c k = bit (eqb k c)
 
 abbrev pub column : ℕ → ℕ → List ℕ → ℕ → List ℕ
 column w n l k = tab n (λ (i : ℕ). getD l (i * w + k) 0)
@@ -46,9 +50,9 @@ abbrev pub fedAll : ℕ → List ℕ → List ℕ → List ℕ
 fedAll r s [] = s
 fedAll r s (b ∷ v) = fedAll r (fed r s b) v
 
--- the register of r words after the free positions of column k of the first n rows
-unfoldable pub remainder : ℕ → List ℕ → ℕ → List ℕ → ℕ → ℕ → List ℕ
-remainder r sheet n us w k = fedAll r (replicate r 0) (freeOf (tab n (ruleAt sheet)) (column w n us k))
+-- the register of r words after the free positions of column k of the first n rows. It starts from the check's leading ones
+unfoldable pub remainder : ℕ → List ℕ → ℕ → List ℕ → ℕ → ℕ → ℕ → List ℕ
+remainder r sheet n us w c k = fedAll r (replicate r (unitWord c k)) (freeOf (tab n (ruleAt sheet)) (column w n us k))
 
 -- ---- the columns of r rows of w words
 

@@ -5,8 +5,8 @@ ghost use Rattle.checks.specs.Checking.{checked, checking};
 mod limits;
 mod register;
 
-// Appends the r rows of the check to the first m rows of `eqs`: the remainder of the free rows of `us` by the check
-// polynomial of length r, which is 0, 6 or 11. Rows have w words as in a descent, the constant in word c.
+// Appends the r rows of the check to the first m rows of `eqs`: the remainder of r rows of the constant and the free rows of
+// `us` by the check polynomial of length r, which is 0, 6 or 11. Rows have w words as in a descent, the constant in word c.
 // Answers false, and changes nothing, unless n is at most 7, the sheet has 20 N bytes for N = 2 to the n, there is a check of
 // length r, c is below w, w is at most 65536, `us` has N w words, and `eqs` has at least (m + r) w.
 pub fn check_rows(
@@ -27,6 +27,6 @@ pub fn check_rows(
     let size = limits::size_of(n);
     let from = m * w;
     let to = (m + r) * w;
-    register::write(sheet, size, us, w, r, &mut eqs[from..to]);
+    register::write(sheet, size, us, w, c, r, &mut eqs[from..to]);
     true
 }

@@ -2,13 +2,12 @@
 ghost use mathlib.Core.Path.{_≡_};
 ghost use mathlib.Core.Bool.{false};
 ghost use Prim.Native.Nat.{_+_, _*_, _<_, _≤_};
-ghost use lib.ListN.{length, getD};
+ghost use lib.ListN.{length, getD, replicate};
 ghost use Rattle.meaning.specs.Limits.{recordBytes};
 ghost use Rattle.meaning.specs.Sheet.{byte};
 ghost use Rattle.meaning.specs.Check.{poly};
-ghost use Rattle.checks.specs.Registers.{tapsOf, moved, fedAt, fed, remainder, Put, ColumnsUpTo};
+ghost use Rattle.checks.specs.Registers.{unitWord, tapsOf, moved, fedAt, fed, remainder, Put, ColumnsUpTo};
 use super::limits;
-use bits::rows;
 
 // The coefficients of the check polynomial of length r, from D^(r-1) at bit 0 on.
 fn taps(r: usize) -> u64
@@ -70,12 +69,30 @@ fn kind(sheet: &[u8], i: usize) -> u8
     sheet[i * meaning::limits::RECORD]
 }
 
-// Feeds word k of each free row of `us`, from a register of zeros.
-fn divide(reg: &mut [u64], sheet: &[u8], size: usize, us: &[u64], w: usize, k: usize)
-    requires { ⌜ (length (now reg) ≤ 11) × (size * recordBytes ≤ length (now sheet)) × (length (now us) ≡ size * w) × (k < w) ⌝ }
-    ensures { λ _. ⌜ now (reg .exit) ≡ remainder (length (now (reg .entry))) (now (sheet .entry)) size (now (us .entry)) w k ⌝ }
+// Word k of the constant's row.
+fn unit_word(c: usize, k: usize) -> u64
+    ensures { λ x. ⌜ x ≡ unitWord c k ⌝ }
 {
-    rows::zero(reg, 0, reg.len());
+    if k == c { 1 } else { 0 }
+}
+
+// Makes every word of the register x.
+fn start(reg: &mut [u64], x: u64)
+    ensures { λ _. ⌜ now (reg .exit) ≡ replicate (length (now (reg .entry))) x ⌝ }
+{
+    let mut j = 0;
+    while j < reg.len() {
+        reg[j] = x;
+        j += 1;
+    }
+}
+
+// Feeds word k of each free row of `us`. The register starts from the check's leading ones, word k of the constant's row each.
+fn divide(reg: &mut [u64], sheet: &[u8], size: usize, us: &[u64], w: usize, c: usize, k: usize)
+    requires { ⌜ (length (now reg) ≤ 11) × (size * recordBytes ≤ length (now sheet)) × (length (now us) ≡ size * w) × (k < w) ⌝ }
+    ensures { λ _. ⌜ now (reg .exit) ≡ remainder (length (now (reg .entry))) (now (sheet .entry)) size (now (us .entry)) w c k ⌝ }
+{
+    start(reg, unit_word(c, k));
     let mut i = 0;
     while i < size {
         if kind(sheet, i) == 0 {
@@ -98,23 +115,31 @@ fn put(out: &mut [u64], w: usize, k: usize, reg: &[u64])
 }
 
 // All words of the check's rows, column by column.
-fn columns(reg: &mut [u64], sheet: &[u8], size: usize, us: &[u64], w: usize, out: &mut [u64])
+fn columns(
+    reg: &mut [u64],
+    sheet: &[u8],
+    size: usize,
+    us: &[u64],
+    w: usize,
+    c: usize,
+    out: &mut [u64],
+)
     requires { ⌜ (length (now reg) ≤ 11) × (size * recordBytes ≤ length (now sheet)) × (length (now us) ≡ size * w) × (length (now out) ≡ length (now reg) * w) ⌝ }
-    ensures { λ _. ⌜ ColumnsUpTo (length (now (reg .entry))) w (remainder (length (now (reg .entry))) (now (sheet .entry)) size (now (us .entry)) w) w (now (out .exit)) ⌝ }
+    ensures { λ _. ⌜ ColumnsUpTo (length (now (reg .entry))) w (remainder (length (now (reg .entry))) (now (sheet .entry)) size (now (us .entry)) w c) w (now (out .exit)) ⌝ }
 {
     let mut k = 0;
     while k < w {
-        divide(reg, sheet, size, us, w, k);
+        divide(reg, sheet, size, us, w, c, k);
         put(out, w, k, reg);
         k += 1;
     }
 }
 
 // The same for a check of length r, with a register of its own.
-pub fn write(sheet: &[u8], size: usize, us: &[u64], w: usize, r: usize, out: &mut [u64])
+pub fn write(sheet: &[u8], size: usize, us: &[u64], w: usize, c: usize, r: usize, out: &mut [u64])
     requires { ⌜ (r ≤ 11) × (size * recordBytes ≤ length (now sheet)) × (length (now us) ≡ size * w) × (length (now out) ≡ r * w) ⌝ }
-    ensures { λ _. ⌜ ColumnsUpTo r w (remainder r (now (sheet .entry)) size (now (us .entry)) w) w (now (out .exit)) ⌝ }
+    ensures { λ _. ⌜ ColumnsUpTo r w (remainder r (now (sheet .entry)) size (now (us .entry)) w c) w (now (out .exit)) ⌝ }
 {
     let mut reg: [u64; limits::LONGEST] = [0; limits::LONGEST];
-    columns(&mut reg[..r], sheet, size, us, w, out);
+    columns(&mut reg[..r], sheet, size, us, w, c, out);
 }

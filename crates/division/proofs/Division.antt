@@ -1,6 +1,6 @@
 -- Division by the check polynomial on words: one step of the register is one step of long division.
 --     step-is            a bit shifted in, and the polynomial subtracted where a 1 went out
---     starts, more       feeding the register
+--     starts, more       feeding the register, from ones on
 --     fed-zero           the remainder is zero exactly when the word is 0
 use mathlib.Core.Path.{_≡_, refl, sym, ap, ap₂, _∙_, subst}
 use mathlib.Core.Logic.{_⊎_, ⊎-elim}
@@ -11,7 +11,7 @@ use native.Mathlib.Numerals.{add-one}
 use native.Mathlib.Decide.{decLt}
 use mathlib.Core.Bool.{Bool, true, false, _&&_, not}
 use mathlib.Core.List.{List, [], _∷_, _++_, map, map-id, map-append, append-assoc, append-nil}
-use lib.ListN.{length, take, getD, replicate}
+use lib.ListN.{length, take, getD, replicate, replicate-append-replicate}
 use lib.Seq.{take-suc}
 use lib.Dec.{eqb}
 use lib.Pow.{pow-pos}
@@ -27,6 +27,7 @@ use Rattle.meaning.specs.Check.{poly, shift, rest, divides}
 use Rattle.meaning.specs.Payload.{remainder}
 use Rattle.meaning.specs.Answers.{isOne}
 use Rattle.meaning.proofs.Remainder.{rest-append, length-poly, scale-none}
+use Rattle.meaning.proofs.Ones.{starts-from}
 use Rattle.division.specs.Division.{toBits, polyWord, Fed}
 
 -- ---- a word as its bits
@@ -127,14 +128,17 @@ module _ (r s : ℕ) (b : Bool) (d : Divisor r) (h : s < 2 ^ r) where
 
 -- ---- feeding the register
 
-zero-bits : (r : ℕ) → toBits r 0 ≡ replicate r false
+-- r ones are the word 2 ^ r - 1
+ones-bits : (r : ℕ) → toBits r (2 ^ r - 1) ≡ replicate r true
 unfolding toBits
-zero-bits zero = refl
-zero-bits (suc r) = ap₂ {C = List Bool} _∷_ (ap (λ (x : ℕ). eqb (x % 2) 1) (zero-div (2 ^ r))) (zero-bits r)
+ones-bits zero = refl
+ones-bits (suc r) =
+    let e : 2 ^ suc r - 1 ≡ (2 ^ r - 1) * 2 + 1 = omega (arith, pow-suc 2 r, pow-pos r) in
+    ap (toBits (suc r)) e ∙ toBits-put r (2 ^ r - 1) true ∙ ap (λ (l : List Bool). l ++ (true ∷ [])) (ones-bits r) ∙ replicate-append-replicate r 1 true ∙ ap (λ (k : ℕ). replicate k true) (add-one r)
 
-pub starts : (r : ℕ) → Fed r [] 0
+pub starts : (r limit : ℕ) → limit ≡ 2 ^ r → Fed r [] (limit - 1)
 unfolding leads
-starts r = record { small = pow-pos r; is = zero-bits r }
+starts r limit e = rw e (record { small = omega (arith, pow-pos r); is = ones-bits r ∙ sym (starts-from r []) })
 
 pub more : (r : ℕ) (v : List Bool) (s t : ℕ) (b : Bool) → Fed r v s → t < 2 ^ r → toBits r t ≡ shift (poly r) (toBits r s) b → Fed r (v ++ (b ∷ [])) t
 more r v s t b f l e = record {
@@ -179,14 +183,6 @@ module _ (l : List ℕ) (i : ℕ) (h : i < length l) where
         let low : s * 2 + bit b < 2 ^ r = rw e at k in
         rw (taken, e) (more r (map isOne (take i l)) s (s * 2 + bit b) b f low (step-under r s b d (f .small) low))
 
--- zeros shifted in
-snoc-false : (i : ℕ) → replicate (i + 1) false ≡ replicate i false ++ (false ∷ [])
-snoc-false i = rw (add-one i) (go i)
-  where
-    go : (i : ℕ) → replicate (suc i) false ≡ replicate i false ++ (false ∷ [])
-    go zero = refl
-    go (suc i) = ap {B = List Bool} (λ l. false ∷ l) (go i)
-
 -- every sequence with remainder `start` has, with i zeros more, remainder s
 abbrev pub Flushed : ℕ → ℕ → ℕ → ℕ → Type 0
 Flushed r start i s = (v : List Bool) → Fed r v start → Fed r (v ++ replicate i false) s
@@ -198,7 +194,7 @@ module _ (r start i s : ℕ) (d : Divisor r) (h : s < 2 ^ r) (f : Flushed r star
   put-false : (t : ℕ) → t < 2 ^ r → toBits r t ≡ shift (poly r) (toBits r s) false → Flushed r start (i + 1) t
   put-false t l e v q =
       let m = more r (v ++ replicate i false) s t false (f v q) l e in
-      subst (λ (w : List Bool). Fed r w t) (append-assoc v (replicate i false) (false ∷ []) ∙ ap (λ (w : List Bool). v ++ w) (sym (snoc-false i))) m
+      subst (λ (w : List Bool). Fed r w t) (append-assoc v (replicate i false) (false ∷ []) ∙ ap (λ (w : List Bool). v ++ w) (replicate-append-replicate i 1 false)) m
 
   even : s * 2 + 0 ≡ s * 2
   even = omega arith

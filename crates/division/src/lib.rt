@@ -31,15 +31,15 @@ fn one(x: u8) -> u64
     if x == 1 { 1 } else { 0 }
 }
 
-// The remainder of the check's sequence that ends in these bits. A bit is shifted in and, where a 1 goes out, the polynomial
-// is subtracted.
+// The remainder of the check's sequence that ends in these bits, r ones in front: they are the remainder at the start. A bit is
+// shifted in and, where a 1 goes out, the polynomial is subtracted.
 fn feed(bits: &[u8], r: usize) -> u64
     requires { ⌜ ((r ≡ 0) ⊎ ((r ≡ 6) ⊎ (r ≡ 11))) ⌝ }
     ensures { λ s. ⌜ Fed r (map isOne (now (bits .entry))) s ⌝ }
 {
     let p = polynomial(r);
     let limit = 1 << r;
-    let mut s: u64 = 0;
+    let mut s: u64 = limit - 1;
     let mut i = 0;
     while i < bits.len() {
         let t = s * 2 + one(bits[i]);

@@ -56,10 +56,13 @@ module _ (g : List Bool) where
   R-false : (v : List Bool) → R (false ∷ v) ≡ R v
   R-false v = ap (λ (s : List Bool). rest g s v) (low-false (length g) refl)
 
-  R-none : (k : ℕ) → R (none k) ≡ none (length g)
+  pub R-zeros : (k : ℕ) (v : List Bool) → R (none k ++ v) ≡ R v
   unfolding none
-  R-none zero = refl
-  R-none (suc k) = R-false (none k) ∙ R-none k
+  R-zeros zero v = refl
+  R-zeros (suc k) v = R-false (none k ++ v) ∙ R-zeros k v
+
+  R-none : (k : ℕ) → R (none k) ≡ none (length g)
+  R-none k = ap R (sym (append-nil (none k))) ∙ R-zeros k []
 
   full : (k : ℕ) (d c : List Bool) → length c ≡ suc k → length c + length d ≡ length g → rest g (none k ++ (true ∷ d)) c ≡ (d ++ c) ⊞ g
   unfolding none

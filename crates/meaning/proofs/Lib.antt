@@ -2,6 +2,7 @@
 --     Polar, Formula            the transform
 --     Sound                     a sheet with no bad record
 --     Remainder, Divide         the check
+--     Ones                      its sequence: r ones, then the free bits
 --     Affine, Candidates        rules, check and agreement; the list of candidates
 --     Coset                     two words erased in the same places
 --     Open, Size, Gap           open positions; how many candidates there can be
@@ -12,6 +13,7 @@
 --     Demands                   demands 2 and 3 of `decoding`
 --     ReadBack                  encoding and read-back; the round trip
 --     Holding                   a sheet that holds nothing is refused; any other that passes holds something
+--     Stuck                     a stuck run of leading zeros is caught
 --     Determined                a promise allows one result; what is refused leaves the buffer as found
 --     Bench                     the starred examples
 pub mod Polar
@@ -19,6 +21,7 @@ pub mod Formula
 pub mod Sound
 pub mod Remainder
 pub mod Divide
+pub mod Ones
 pub mod Affine
 pub mod Candidates
 pub mod Coset
@@ -33,5 +36,6 @@ pub mod Forms
 pub mod Demands
 pub mod ReadBack
 pub mod Holding
+pub mod Stuck
 pub mod Determined
 pub mod Bench

@@ -50,7 +50,7 @@ open-diff n es i = bool-ext _ _
 none-⊞ : (m : ℕ) → none m ⊞ none m ≡ none m
 none-⊞ m = ⊞-none (none m) m (length-none m)
 
-polar-none : (n : ℕ) → polar n (none (2 ^ n)) ≡ none (2 ^ n)
+pub polar-none : (n : ℕ) → polar n (none (2 ^ n)) ≡ none (2 ^ n)
 polar-none n =
     let l = length-none (2 ^ n) in
     let e = polar-⊞ n (none (2 ^ n)) (none (2 ^ n)) l l in

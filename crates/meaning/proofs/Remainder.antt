@@ -1,5 +1,5 @@
 -- The check bits: the last r bits of what the check polynomial divides are the remainder of what stands before them.
---     check-bits        free bits keep the check exactly when the last r are the payload's remainder
+--     check-bits        free bits keep the check exactly when the last r are the remainder of the leading bits and the payload
 use mathlib.Core.Path.{_≡_, refl, sym, ap, ap₂, _∙_}
 use mathlib.Core.Logic.{_↔_}
 use Prim.Native.Nat.{ℕ, suc, _+_, _-_}
@@ -27,7 +27,7 @@ unfolding none
 scale-none [] = refl
 scale-none (x ∷ g) = ap {B = List Bool} (λ t. false ∷ t) (scale-none g)
 
-length-shift : (g s : List Bool) (b : Bool) → length s ≡ length g → length (shift g s b) ≡ length g
+pub length-shift : (g s : List Bool) (b : Bool) → length s ≡ length g → length (shift g s b) ≡ length g
 length-shift g [] b h = h
 length-shift g (o ∷ s) b h =
     let e : length (s ++ (b ∷ [])) ≡ length g = simp length-append (omega arith) in
@@ -81,6 +81,6 @@ check-iff r p c lc =
       λ h. ap zeros (e ∙ ap (λ (t : List Bool). t ⊞ c) (sym h) ∙ ⊞-self c) ∙ zeros-none (length c),
     )
 
--- free bits that keep the check: the payload p, then its remainder after shifting by r
+-- free bits that keep the check: the payload p, then the remainder of the leading bits and p, after shifting by r
 pub check-bits : (r : ℕ) (p c : List Bool) → length c ≡ r → (divides r (leads r ++ (p ++ c)) ≡ true) ↔ (c ≡ remainder (poly r) (leads r ++ p))
 check-bits r p c lc = rw (← (append-assoc (leads r) p c)) (check-iff r (leads r ++ p) c lc)

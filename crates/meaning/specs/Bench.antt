@@ -61,7 +61,7 @@ rows =
     ∷ decodesE 02211220 (five 1 1 1 1) (three 02211220 01111000 00011110)
     ∷ decodesE 12200220 (five 2 1 1 0) []
     ∷ decodesE 22222222 (five 1 4 0 4) (three 22222222 00000000 11100001)
-    ∷ decodes sheet0 6 22222222 (five 1 7 6 1) (three 20022222 00000000 10011111)
+    ∷ decodes sheet0 6 22222222 (five 1 7 6 1) (three 21122222 01100011 11111100)
     ∷ []
 
 -- ---- what it is for a row to hold

@@ -4,10 +4,11 @@
 --     recordBytes       bytes of a record of the sheet: 4, then the mask
 --     largestCeiling    the ceiling on unknowns is 0 to this
 --     stripWidth        bytes of a strip in an answer record
---     leads r           the bits that stand before the free bits when the check divides
+--     leads r           the bits that stand before the free bits when the check divides: r ones
 use Prim.Native.Nat.{ℕ, _+_}
-use mathlib.Core.Bool.{Bool}
-use mathlib.Core.List.{List, []}
+use mathlib.Core.Bool.{Bool, true}
+use mathlib.Core.List.{List}
+use lib.ListN.{replicate}
 
 unfoldable pub largestN : ℕ
 largestN = 7
@@ -26,4 +27,4 @@ unfoldable pub stripWidth : ℕ
 stripWidth = 128
 
 unfoldable pub leads : ℕ → List Bool
-leads r = []
+leads r = replicate r true

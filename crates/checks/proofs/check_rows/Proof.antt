@@ -71,7 +71,7 @@ write-requires c κs =
 same-length : tie.Need-same-length
 same-length c =
     let A = c .before .before .before .before .before .before .before .before .before .before .args in
-    same-len-mid {X = ℕ} (A .m * A .w) ((A .m + A .r) * A .w - A .m * A .w) (A .eqs .now) (c .before .before .write .last .1 .1 .1 .1 .1 .0) (c .before .before .write .kept .1 .1 .1 .1 .1 .0)
+    same-len-mid {X = ℕ} (A .m * A .w) ((A .m + A .r) * A .w - A .m * A .w) (A .eqs .now) (c .before .before .write .last .1 .1 .1 .1 .1 .1 .0) (c .before .before .write .kept .1 .1 .1 .1 .1 .1 .0)
 
 returns-2 : tie.Need-returns-2
 returns-2 c =
@@ -79,7 +79,7 @@ returns-2 c =
     let h = sym (c .before .before .before .before .before .before .fits2 .ensures) ∙ not-false _ (c .before .before .before .before .before .if1 .left) in
     let R = ready (A .n) (length (A .sheet .now)) (A .r) (A .c) (A .w) (length (A .us .now)) (A .m) (length (A .eqs .now)) h in
     let W = c .before .before .write in
-    appended _ _ _ _ _ _ _ _ h _ (c .before .before .before .before .size-of .ensures) (W .last .1 .1 .1 .1 .1 .0) (W .kept .1 .1 .1 .1 .1 .0 ∙ part-length (A .m) (A .r) (A .w) (A .eqs .now) (R .room)) (W .ensures)
+    appended _ _ _ _ _ _ _ _ h _ (c .before .before .before .before .size-of .ensures) (W .last .1 .1 .1 .1 .1 .1 .0) (W .kept .1 .1 .1 .1 .1 .1 .0 ∙ part-length (A .m) (A .r) (A .w) (A .eqs .now) (R .room)) (W .ensures)
 
 pub check-rows-spec : {M : Type 1} → statement M
 check-rows-spec =

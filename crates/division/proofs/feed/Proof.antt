@@ -5,6 +5,7 @@ use Prim.Native.Nat.{_-_, _^_, _≤_}
 use native.Mathlib.Omega.{arith}
 use lib.Seq.{take-all}
 use lib.ListN.{length, take, getD}
+use lib.Pow.{pow-pos}
 use borrow.Author.Needs.{needs}
 use Rattle.meaning.specs.Answers.{isOne}
 use Rattle.bits.proofs.Words.{shl-one}
@@ -25,8 +26,16 @@ polynomial-requires c κs = search needs
 shl-limit : tie.Need-shl-limit Inv-loop μ-loop
 shl-limit c = omega (arith, length-small _ (c .before .before .pre))
 
+sub-s : tie.Need-sub-s Inv-loop μ-loop
+sub-s c =
+    let r = c .before .before .args .r in
+    omega (arith, shl-one r (omega (arith, length-small r (c .before .before .pre))), pow-pos r)
+
 loop-holds : tie.Need-loop-holds Inv-loop μ-loop
-loop-holds c = (omega arith, c .polynomial .ensures, shl-one _ (omega (arith, length-small _ (c .before .before .pre))), starts _)
+loop-holds c =
+    let r = c .before .before .args .r in
+    let limit = shl-one r (omega (arith, length-small r (c .before .before .pre))) in
+    (omega arith, c .polynomial .ensures, limit, starts r _ limit)
 
 mul-t : tie.Need-mul-t Inv-loop μ-loop
 mul-t c = record { fits = omega (arith, length-small _ (c .before .before .before .before .pre), c .before .loop .inv .3 .small) }
@@ -68,6 +77,7 @@ feed-spec =
     μ-loop
     polynomial-requires
     shl-limit
+    sub-s
     loop-holds
     mul-t
     shared-slice-read-one

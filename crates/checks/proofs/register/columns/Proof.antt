@@ -9,11 +9,11 @@ use Rattle.checks.proofs.register.columns.Statement.{statement}
 use Rattle.checks.proofs.register.columns.Tie as tie
 
 abbrev Inv-loop : tie.InvT-loop
-Inv-loop reg₀ sheet size us w out₀ k₀ reg out k =
-    (k ≤ w) × (length reg ≡ length reg₀) × (length out ≡ length out₀) × ColumnsUpTo (length reg₀) w (remainder (length reg₀) sheet size us w) k out
+Inv-loop reg₀ sheet size us w c out₀ k₀ reg out k =
+    (k ≤ w) × (length reg ≡ length reg₀) × (length out ≡ length out₀) × ColumnsUpTo (length reg₀) w (remainder (length reg₀) sheet size us w c) k out
 
 abbrev μ-loop : tie.MeasureT-loop
-μ-loop reg₀ sheet size us w out₀ k₀ reg out k = w - k
+μ-loop reg₀ sheet size us w c out₀ k₀ reg out k = w - k
 
 loop-holds : tie.Need-loop-holds Inv-loop μ-loop
 loop-holds c = (omega arith, refl, refl, λ j q hj hq. absurd (omega arith))
@@ -41,8 +41,8 @@ loop-again c =
     let I = c .before .before .before .before .before .before .before .before .before .before .loop .inv in
     let t = c .before .before .before .before .before .before .before .before .before .loop-test .taken in
     let D = c .before .before .before .before .before .before .before .divide in
-    let f : ℕ → List ℕ = remainder (length (A .reg .now)) (A .sheet .now) (A .size) (A .us .now) (A .w) in
-    let e = D .ensures ∙ ap (λ (r : ℕ). remainder r (A .sheet .now) (A .size) (A .us .now) (A .w) (c .before .before .before .before .before .before .before .before .before .before .loop .k)) (I .1) in
+    let f : ℕ → List ℕ = remainder (length (A .reg .now)) (A .sheet .now) (A .size) (A .us .now) (A .w) (A .c) in
+    let e = D .ensures ∙ ap (λ (r : ℕ). remainder r (A .sheet .now) (A .size) (A .us .now) (A .w) (A .c) (c .before .before .before .before .before .before .before .before .before .before .loop .k)) (I .1) in
     (omega arith, D .kept .0 ∙ I .1, c .before .before .put .kept .0 ∙ I .2, columns-next _ _ f _ _ _ _ (I .3) (c .before .before .put .ensures) e (D .kept .0 ∙ I .1) t)
 
 same-length : tie.Need-same-length Inv-loop μ-loop
@@ -54,7 +54,7 @@ same-length-2 c = c .before .loop .inv .2
 returns : tie.Need-returns Inv-loop μ-loop
 returns c =
     let A = c .before .before .before .before .before .before .args in
-    columns-last _ _ (remainder (length (A .reg .now)) (A .sheet .now) (A .size) (A .us .now) (A .w)) _ (c .before .loop .out) (c .loop-test .left) (c .before .loop .inv .3)
+    columns-last _ _ (remainder (length (A .reg .now)) (A .sheet .now) (A .size) (A .us .now) (A .w) (A .c)) _ (c .before .loop .out) (c .loop-test .left) (c .before .loop .inv .3)
 
 pub columns-spec : {M : Type 1} → statement M
 columns-spec =

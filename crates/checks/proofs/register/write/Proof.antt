@@ -20,10 +20,10 @@ columns-requires c κs =
     (omega (arith, l, S .pre .0), S .pre .1, S .pre .2, S .pre .3 ∙ ap (λ (x : ℕ). x * S .args .w) (sym l))
 
 same-length : tie.Need-same-length
-same-length c = c .before .before .before .columns .kept .1 .1 .1 .1 .1 .0
+same-length c = c .before .before .before .columns .kept .1 .1 .1 .1 .1 .1 .0
 
 returns : tie.Need-returns
-returns c = columns-long _ _ _ _ _ _ (c .before .before .before .columns .last .1 .1 .1 .1 .1 .0) (length-take-le _ _ (c .before .before .before .before .before .before .before .before .before .pre .0)) (c .before .before .before .columns .ensures)
+returns c = columns-long _ _ _ _ _ _ _ (c .before .before .before .columns .last .1 .1 .1 .1 .1 .1 .0) (length-take-le _ _ (c .before .before .before .before .before .before .before .before .before .pre .0)) (c .before .before .before .columns .ensures)
 
 pub write-spec : {M : Type 1} → statement M
 write-spec =
