@@ -215,16 +215,16 @@ shifted-all s b reg j p h =
 
 -- the register, its first j words x
 pub record Started (x : ℕ) (s reg : List ℕ) (j : ℕ) : Type 0 where
+  pub is : take j reg ≡ replicate j x
   pub some : j ≤ length s
   pub size : length reg ≡ length s
-  pub is : take j reg ≡ replicate j x
 
 pub started-next : (x : ℕ) (s reg : List ℕ) (j : ℕ) → Started x s reg j → j < length s → Started x s (set reg j x) (j + 1)
 started-next x s reg j p h =
     record {
+      is = ap (λ (m : ℕ). take m (set reg j x)) (add-one j) ∙ take-suc-set reg j x (omega (arith, p .size)) ∙ ap (λ (l : List ℕ). l ++ (x ∷ [])) (p .is) ∙ replicate-append-replicate j 1 x;
       some = omega arith;
       size = length-set reg j x ∙ p .size;
-      is = ap (λ (m : ℕ). take m (set reg j x)) (add-one j) ∙ take-suc-set reg j x (omega (arith, p .size)) ∙ ap (λ (l : List ℕ). l ++ (x ∷ [])) (p .is) ∙ replicate-append-replicate j 1 x;
     }
 
 pub started-all : (x : ℕ) (s reg : List ℕ) (j : ℕ) → Started x s reg j → length s ≤ j → reg ≡ replicate (length s) x

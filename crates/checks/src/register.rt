@@ -80,10 +80,10 @@ fn unit_word(c: usize, k: usize) -> u64
 fn start(reg: &mut [u64], x: u64)
     ensures { λ _. ⌜ now (reg .exit) ≡ replicate (length (now (reg .entry))) x ⌝ }
 {
-    let mut j = 0;
-    while j < reg.len() {
-        reg[j] = x;
-        j += 1;
+    let mut at = 0;
+    while at < reg.len() {
+        reg[at] = x;
+        at += 1;
     }
 }
 

@@ -89,7 +89,7 @@ module _ (n : ℕ) (ks : List Rule) (r : ℕ) (lk : length ks ≡ 2 ^ n) (ok : e
       let c : List Bool = remainder (poly r) (leads r ++ p) in
       let lc : length c ≡ r = length-remainder (poly r) (leads r ++ p) ∙ length-poly r in
       let e : freeBits ks (place ks [] (p ++ c)) ≡ p ++ c = free-place ks [] (p ++ c) (simp length-append (omega arith)) in
-      (length-place ks [] (p ++ c) ∙ lk, and-i _ _ (keeps-place ks [] (p ++ c) ok) (rw e (check-bits r p c lc .1 refl)), rw e (take-at p c (length p) refl))
+      (length-place ks [] _ ∙ lk, and-i _ _ (keeps-place ks [] _ ok) (rw e (check-bits r p c lc .1 refl)), rw e (take-at p c (length p) refl))
 
   pub encoded-unique : (u : List Bool) → length u ≡ 2 ^ n → keeps ks r u ≡ true → take (length p) (freeBits ks u) ≡ p → u ≡ encoded ks r p
   unfolding encoded keeps

@@ -3,6 +3,7 @@
 --     Sound                     a sheet with no bad record
 --     Remainder, Divide         the check
 --     Ones                      its sequence: r ones, then the free bits
+--     Example                   the example with r = 6, by hand
 --     Affine, Candidates        rules, check and agreement; the list of candidates
 --     Coset                     two words erased in the same places
 --     Open, Size, Gap           open positions; how many candidates there can be
@@ -22,6 +23,7 @@ pub mod Sound
 pub mod Remainder
 pub mod Divide
 pub mod Ones
+pub mod Example
 pub mod Affine
 pub mod Candidates
 pub mod Coset

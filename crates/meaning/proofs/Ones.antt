@@ -20,7 +20,7 @@ use Rattle.meaning.proofs.Divide.{times, R-zeros, divides-iff}
 
 pub length-leads : (r : ℕ) → length (leads r) ≡ r
 unfolding leads
-length-leads r = length-replicate r true
+length-leads r = length-replicate r _
 
 -- r bits that are shifted into zeros stay
 pub starts-from : (r : ℕ) (v : List Bool) → rest (poly r) (replicate r false) (leads r ++ v) ≡ rest (poly r) (leads r) v

@@ -6,12 +6,11 @@
 --     stuck-read, stuck-decoded     a word of zeros, nothing lost, is inconsistent
 use mathlib.Core.Path.{_≡_, refl, sym, ap, ap₂, _∙_}
 use mathlib.Core.Logic.{_⊎_, ⊎-elim}
-use Prim.Native.Nat.{ℕ, zero, suc, _+_, _-_, _^_, _≤_, _<_}
+use Prim.Native.Nat.{ℕ, zero, suc, _+_, _^_, _≤_, _<_}
 use native.Mathlib.Omega.{arith}
-use native.Mathlib.Nat.{suc-inj}
 use mathlib.Core.Bool.{Bool, true, false, _&&_, not, false≢true}
 use mathlib.Core.List.{List, [], _∷_, _++_, map, map-id}
-use lib.ListN.{length, drop, getD, replicate, length-append, length-map, length-replicate}
+use lib.ListN.{length, drop, getD, replicate, length-append, length-replicate}
 use lib.Dec.{eqb}
 use Rattle.bits.specs.Vectors.{_⊞_, bit, keep, ones, pick, zeros}
 use Rattle.bits.proofs.Tests.{and-l, and-r, and-false}

@@ -8,13 +8,13 @@ use Rattle.checks.proofs.register.start.Statement.{statement}
 use Rattle.checks.proofs.register.start.Tie as tie
 
 abbrev Inv-loop : tie.InvT-loop
-Inv-loop reg₀ x j₀ reg j = Started x reg₀ reg j
+Inv-loop reg₀ x at₀ reg at = Started x reg₀ reg at
 
 abbrev μ-loop : tie.MeasureT-loop
-μ-loop reg₀ x j₀ reg j = length reg₀ - j
+μ-loop reg₀ x at₀ reg at = length reg₀ - at
 
 loop-holds : tie.Need-loop-holds Inv-loop μ-loop
-loop-holds c = record { some = omega arith; size = refl; is = refl }
+loop-holds c = record { is = refl; some = omega arith; size = refl }
 
 mul-reg : tie.Need-mul-reg Inv-loop μ-loop
 mul-reg c = search needs
@@ -22,8 +22,8 @@ mul-reg c = search needs
 slice-write-reg : tie.Need-slice-write-reg Inv-loop μ-loop
 slice-write-reg c = search needs
 
-add-j : tie.Need-add-j Inv-loop μ-loop
-add-j c = search needs
+add-at : tie.Need-add-at Inv-loop μ-loop
+add-at c = search needs
 
 loop-less : tie.Need-loop-less Inv-loop μ-loop
 loop-less c = omega (arith, c .before .loop .inv .size)
@@ -46,7 +46,7 @@ start-spec =
     loop-holds
     mul-reg
     slice-write-reg
-    add-j
+    add-at
     loop-less
     loop-again
     same-length

@@ -1,5 +1,4 @@
 use mathlib.Core.Path.{sym, ap}
-use mathlib.Core.Bool.{Bool}
 use Rattle.bits.specs.Vectors.{bit}
 use borrow.Author.Tests.{eq-eqb, ne-eqb}
 use Rattle.checks.proofs.register.unit_word.Statement.{statement}
