@@ -55,7 +55,7 @@ pub fn remainder(sequence: &[bool], r: usize) -> Vec<bool> {
     left.split_off(quotient_bits)
 }
 
-/// The sequence that the check polynomial must divide.
+/// The sequence that the check polynomial must divide: r ones, then the K free bits.
 pub fn checked_sequence(free_bits: &[bool], r: usize) -> Vec<bool> {
     let mut sequence = vec![true; leading_ones(r)];
     sequence.extend(free_bits);

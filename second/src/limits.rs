@@ -19,7 +19,7 @@ pub const STRIP_BYTES: usize = 128;
 /// Bytes in front of the strips in an answer record of the stream.
 pub const HEADER_BYTES: usize = 8;
 
-/// How many ones stand in front of the free bits when the check polynomial divides: none.
-pub fn leading_ones(_r: usize) -> usize {
-    0
+/// How many ones stand in front of the free bits when the check polynomial divides: r of them.
+pub fn leading_ones(r: usize) -> usize {
+    r
 }

@@ -1,13 +1,14 @@
 // Makes sheets as bytes: ones that keep every rule, at random, and one fault of a named kind put
-// into a record; and words: codewords of any payload, and their losses. The requests and the tests
-// are made from these.
+// into a record; and words: codewords of any payload, their losses, and words that keep the check
+// only as it could be misread. The requests and the tests are made from these.
 
 use crate::answer::Answer;
 use crate::calls;
-use crate::code::{filled, transform, ERASED};
+use crate::code::{filled, remainder, transform, ERASED};
 use crate::limits::{MASK_BYTES, RECORD_BYTES};
 use crate::rng::Rng;
 use crate::sheet::{Record, Sheet};
+use crate::system::{unit, System};
 
 /// The bytes of a sheet.
 pub fn bytes(records: &[Record]) -> Vec<u8> {
@@ -121,21 +122,95 @@ pub fn bits(rng: &mut Rng, length: usize) -> Vec<u8> {
     (0..length).map(|_| rng.below(2) as u8).collect()
 }
 
+/// Bits at random, of which the first, or more from it on, are 0; at least one bit.
+pub fn zeros_first(rng: &mut Rng, length: usize) -> Vec<u8> {
+    let mut bits = bits(rng, length);
+    bits[..rng.within(1, length)].fill(0);
+    bits
+}
+
+/// The codeword of a payload.
+pub fn codeword(n: usize, sheet: &[u8], r: usize, payload: &[u8]) -> Vec<u8> {
+    let mut word = vec![0; 1 << n];
+    let answer = calls::encode(n, sheet, r, payload, &mut word);
+    assert_eq!(answer, Answer::code(0));
+    word
+}
+
 /// The codeword of a payload drawn at random.
 pub fn any_codeword(rng: &mut Rng, n: usize, sheet: &[u8], r: usize) -> Vec<u8> {
     let k = Sheet::read(n, sheet, r).expect("a good sheet").k();
-    let payload = bits(rng, k - r);
-    let mut word = vec![0; 1 << n];
-    let answer = calls::encode(n, sheet, r, &payload, &mut word);
-    assert_eq!(answer, Answer::code(0));
-    word
+    codeword(n, sheet, r, &bits(rng, k - r))
+}
+
+/// The word of the one u that keeps every rule of a sheet and holds these K free bits.
+pub fn word_of(sheet: &Sheet, free_bits: &[bool]) -> Vec<u8> {
+    let word = transform(&filled(sheet, free_bits));
+    word.into_iter().map(u8::from).collect()
 }
 
 /// The word of the one u that keeps every rule of a sheet with no free position.
 pub fn only_word(n: usize, sheet: &[u8]) -> Vec<u8> {
     let sheet = Sheet::of_any_k(n, sheet).expect("a sheet that keeps every rule");
-    let word = transform(&filled(&sheet, &[]));
-    word.into_iter().map(u8::from).collect()
+    word_of(&sheet, &[])
+}
+
+/// Ways to misread the check, for r of 6 and 11.
+#[derive(Clone, Copy, Debug, PartialEq, Eq, PartialOrd, Ord)]
+pub enum Misreading {
+    /// No ones, as 01 has it.
+    NoOnes,
+    /// The r ones behind the free bits.
+    OnesBehind,
+    /// One 1 too few in front.
+    OneTooFew,
+    /// No ones in front; the first r free bits turned over.
+    TurnedOver,
+}
+
+pub const MISREADINGS: [Misreading; 4] = [
+    Misreading::NoOnes,
+    Misreading::OnesBehind,
+    Misreading::OneTooFew,
+    Misreading::TurnedOver,
+];
+
+impl Misreading {
+    /// The sequence that the polynomial would divide.
+    pub fn sequence(self, free_bits: &[bool], r: usize) -> Vec<bool> {
+        match self {
+            Misreading::NoOnes => free_bits.to_vec(),
+            Misreading::OnesBehind => [free_bits, &vec![true; r]].concat(),
+            Misreading::OneTooFew => [&vec![true; r - 1], free_bits].concat(),
+            Misreading::TurnedOver => (free_bits.iter().enumerate())
+                .map(|(t, &bit)| bit ^ (t < r))
+                .collect(),
+        }
+    }
+
+    /// Whether the polynomial divides it.
+    pub fn keeps(self, free_bits: &[bool], r: usize) -> bool {
+        !remainder(&self.sequence(free_bits, r), r).contains(&true)
+    }
+
+    /// The payload and the r bits behind it that keep the check so misread: r equations for them.
+    pub fn free_bits(self, payload: &[u8], r: usize) -> Vec<bool> {
+        let followed_by = |check: Vec<bool>| -> Vec<bool> {
+            payload.iter().map(|&bit| bit == 1).chain(check).collect()
+        };
+        let rest = |check| remainder(&self.sequence(&followed_by(check), r), r);
+        let none = rest(vec![false; r]);
+        let each: Vec<Vec<bool>> = (0..r).map(|t| rest(unit(r, t))).collect();
+        let mut system = System::new(r);
+        for (row, &value) in none.iter().enumerate() {
+            let unknowns: Vec<bool> = each.iter().map(|one| one[row] ^ value).collect();
+            assert!(system.add(&unknowns, value), "one solution");
+        }
+        let bit = |t| system.fixed(&unit(r, t)).expect("one solution");
+        let bits = followed_by((0..r).map(bit).collect());
+        assert!(self.keeps(&bits, r), "the check misread");
+        bits
+    }
 }
 
 /// The word with each symbol erased at a chance of `losses` in eight.

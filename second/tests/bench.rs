@@ -1,10 +1,11 @@
 // The bench examples of the scope, number by number and byte by byte. W-202 amends the two of a
-// frozen N = 1: the sheet has no free position and is refused.
+// frozen N = 1: the sheet has no free position and is refused. W-204 amends the one of r = 6.
 
 mod common;
 use common::{decode, numbers, sheet_e, symbols, BEFORE};
 use second::answer::Answer;
 use second::calls;
+use second::code::transform;
 
 /// A row of the table: word, code, g, m, d and the three strips, if any are written.
 type Row = (&'static str, u16, u16, u16, u16, Option<[&'static str; 3]>);
@@ -100,12 +101,47 @@ fn one_and_two_symbols() {
     );
 }
 
+/// The rest of a number whose bits are the coefficients, by D^6 + D^5 + 1.
+fn divided_rest(mut number: u32) -> u32 {
+    for power in (6..32).rev() {
+        if number >> power & 1 == 1 {
+            number ^= 0b1100001 << (power - 6);
+        }
+    }
+    number
+}
+
 #[test]
 fn check_rows() {
+    // u_0 = 0. Six ones, the payload bit 0 and six zeros, divided by D^6 + D^5 + 1:
+    //   1111110000000
+    //   1100001
+    //     1111100
+    //     1100001
+    //       1110100
+    //       1100001
+    //         1010100
+    //         1100001
+    //          110101
+    // The payload bit 1 adds D^6 = D^5 + 1: 110101 + 100001 = 010100.
+    // So u is 00110101 or 01010100: x is 01100011 or 11111100.
+    let kept: Vec<u32> = (0..128)
+        .filter(|free_bits| divided_rest(0b111111 << 7 | free_bits) == 0)
+        .collect();
+    assert_eq!(kept, [0b0110101, 0b1010100]);
+    let [first, last] = ["01100011", "11111100"];
+    for (u, x) in [("00110101", first), ("01010100", last)] {
+        let u: Vec<bool> = symbols(u).into_iter().map(|bit| bit == 1).collect();
+        let symbols: Vec<bool> = symbols(x).into_iter().map(|bit| bit == 1).collect();
+        assert_eq!(transform(&u), symbols);
+    }
     let mut sheet = vec![0; 160];
     sheet[0] = 1;
-    let strips = Some(["20022222", "00000000", "10011111"]);
+    let strips = Some(["21122222", first, last]);
     hold(3, &sheet, 6, &("22222222", 1, 7, 6, 1, strips));
+    // 01's strips for this row, before W-204, are no codewords now
+    hold(3, &sheet, 6, &("00000000", 2, 0, 7, 0, None));
+    hold(3, &sheet, 6, &("10011111", 2, 0, 7, 0, None));
     sheet[20] = 1;
     hold(3, &sheet, 6, &("22222222", 13, 0, 0, 0, None));
     assert_eq!(calls::check_sheet(3, &sheet, 6), Answer::code(13));

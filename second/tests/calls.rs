@@ -2,12 +2,24 @@
 // the output as found.
 
 mod common;
-use common::{any_sheet, decode, numbers, symbols, BEFORE};
+use common::{
+    any_sheet, check_kept, decode, numbers, ones, register, register_bits, symbols, BEFORE,
+};
 use second::answer::{Answer, OF_CODEC, OF_SHEET, ORDER};
 use second::calls::{self, ANSWER_BYTES};
-use second::make::{any_codeword, bits, bytes, damaged, every_sheet, good, only_word, STYLES};
+use second::code::{free_bits, transform};
+use second::make::{
+    any_codeword, bits, bytes, damaged, every_sheet, good, only_word, word_of, Misreading,
+    MISREADINGS, STYLES,
+};
 use second::rng::Rng;
 use second::sheet::Sheet;
+
+/// The u of a word of which nothing is lost.
+fn u_of(word: &[u8]) -> Vec<bool> {
+    let symbols: Vec<bool> = word.iter().map(|&symbol| symbol == 1).collect();
+    transform(&symbols)
+}
 
 #[test]
 fn written_reads_back() {
@@ -21,6 +33,7 @@ fn written_reads_back() {
                 let answer = calls::encode(n, &sheet, r, &payload, &mut word);
                 assert_eq!(answer, Answer::code(0));
                 assert_eq!(word.split_off(1 << n), [BEFORE; 2]);
+                assert!(check_kept(&free_bits(&read, &u_of(&word)), r));
                 let mut out = vec![BEFORE; payload.len() + 2];
                 let answer = calls::read_back(n, &sheet, r, &word, &mut out);
                 assert_eq!(answer, Answer::code(0));
@@ -88,6 +101,73 @@ fn a_word_is_a_codeword_or_not() {
         }
     }
     assert!(seen[0] > 10 && seen[2] > 200, "{seen:?}");
+}
+
+/// Decodes a word of which nothing is lost and reads it back: whether both say it is a codeword.
+fn is_codeword(n: usize, sheet: &[u8], r: usize, word: &[u8]) -> bool {
+    let read = Sheet::read(n, sheet, r).expect("a good sheet");
+    let (answer, strips) = decode(n, sheet, r, 0, word);
+    let m = (1 << n) - read.k() + r;
+    assert_eq!(answer, numbers(answer.code, 0, 0, m as u16, 0));
+    let mut out = vec![BEFORE; read.k() - r];
+    let read_back = calls::read_back(n, sheet, r, word, &mut out);
+    assert_eq!(read_back, Answer::code(answer.code));
+    assert_eq!(strips.is_some(), answer.code == 0);
+    assert!(strips.is_some() || untouched(&out));
+    answer.code == 0
+}
+
+#[test]
+fn the_all_zero_word() {
+    let mut rng = Rng::new(12);
+    for n in 0..=7 {
+        for r in [0, 6, 11].into_iter().filter(|&r| r < 1 << n) {
+            for k in [r + 1, rng.within(r + 1, 1 << n), 1 << n] {
+                // no constant is 1
+                for style in [STYLES[0], STYLES[2]] {
+                    let sheet = good(&mut rng, 1 << n, k, style);
+                    let zero = vec![0; 1 << n];
+                    assert_eq!(is_codeword(n, &sheet, r, &zero), r == 0);
+                    // the codeword of the payload of zeros holds what is left of r ones
+                    let mut free_bits = vec![false; k - r];
+                    if r > 0 {
+                        // without the ones it would keep the check
+                        assert!(Misreading::NoOnes.keeps(&vec![false; k], r));
+                        let check = register(ones(r), &vec![false; k], r);
+                        free_bits.extend(register_bits(check, r));
+                    }
+                    let read = Sheet::read(n, &sheet, r).unwrap();
+                    let word = word_of(&read, &free_bits);
+                    assert!(is_codeword(n, &sheet, r, &word));
+                    let mut out = vec![BEFORE; 1 << n];
+                    calls::encode(n, &sheet, r, &vec![0; k - r], &mut out);
+                    assert_eq!(out, word);
+                }
+            }
+        }
+    }
+}
+
+#[test]
+fn words_of_a_check_misread() {
+    let mut rng = Rng::new(13);
+    let mut refused = [0; 4];
+    for n in 3..=7 {
+        for r in [6, 11].into_iter().filter(|&r| r < 1 << n) {
+            for _ in 0..10 {
+                let (sheet, read) = any_sheet(&mut rng, n, r);
+                for (at, misreading) in MISREADINGS.into_iter().enumerate() {
+                    let payload = bits(&mut rng, read.k() - r);
+                    let free_bits = misreading.free_bits(&payload, r);
+                    let word = word_of(&read, &free_bits);
+                    let right = check_kept(&free_bits, r);
+                    assert_eq!(is_codeword(n, &sheet, r, &word), right);
+                    refused[at] += usize::from(!right);
+                }
+            }
+        }
+    }
+    assert!(refused.iter().all(|&count| count > 80), "{refused:?}");
 }
 
 /// The faults of a call as a set, in the order of the refusals: whether the one with this code is

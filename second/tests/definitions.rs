@@ -1,10 +1,10 @@
-// The transform against the matrix power and the halves, and the check polynomials against
-// remainders worked out by hand and by a shift register.
+// The transform against the matrix power and the halves, the check polynomials against remainders
+// worked out by hand and by a shift register, and the ones in front of the free bits.
 
 mod common;
-use common::any_sheet;
+use common::{any_sheet, check_kept, ones, register, register_bits};
 use second::code::{checked_sequence, free_bits, keeps, polynomial, remainder, transform};
-use second::make::bits;
+use second::make::{bits, Misreading, MISREADINGS};
 use second::rng::Rng;
 
 fn random(rng: &mut Rng, length: usize) -> Vec<bool> {
@@ -71,30 +71,16 @@ fn remainders_by_hand() {
     }
 }
 
-/// The remainder bit by bit in a register, the polynomial as a number without its highest power.
-fn register(sequence: &[bool], r: u32, low: u32) -> u32 {
-    let mut state = 0;
-    for &bit in sequence {
-        let top = state >> (r - 1) & 1;
-        state = (state << 1 | u32::from(bit)) & ((1 << r) - 1);
-        if top == 1 {
-            state ^= low;
-        }
-    }
-    state
-}
-
 #[test]
 fn remainders_by_a_register() {
     let mut rng = Rng::new(3);
     let mut divided = 0;
-    for (r, low) in [(6, 0b100001), (11, 0b11000100001)] {
+    for r in [6, 11] {
         for length in r + 1..=128 {
             let sequence = random(&mut rng, length);
             let rest = remainder(&sequence, r);
-            assert_eq!(rest.len(), r);
-            let number = rest.iter().fold(0, |sum, &bit| sum << 1 | u32::from(bit));
-            assert_eq!(number, register(&sequence, r as u32, low));
+            let number = register(0, &sequence, r);
+            assert_eq!(rest, register_bits(number, r));
             // with the remainder added at its end the sequence is divided
             let mut whole = sequence.clone();
             for (bit, rest) in whole[length - r..].iter_mut().zip(&rest) {
@@ -105,6 +91,106 @@ fn remainders_by_a_register() {
         }
     }
     assert!(divided < 20, "most sequences are not divided");
+}
+
+/// The remainder of what the check divides.
+fn checked(free_bits: &[bool], r: usize) -> Vec<bool> {
+    remainder(&checked_sequence(free_bits, r), r)
+}
+
+#[test]
+fn the_check_starts_from_ones() {
+    let mut rng = Rng::new(5);
+    for r in [6, 11] {
+        // r ones go into an empty register and fill it
+        assert_eq!(register(0, &vec![true; r], r), ones(r));
+        for k in r + 1..=128 {
+            let bits = random(&mut rng, k);
+            let in_front = [vec![true; r], bits.clone()].concat();
+            assert_eq!(checked(&bits, r), remainder(&in_front, r));
+            let preset = register(ones(r), &bits, r);
+            assert_eq!(checked(&bits, r), register_bits(preset, r));
+        }
+    }
+    assert_eq!(checked_sequence(&[false, true], 0), [false, true]);
+}
+
+/// The check bits of a payload.
+fn check_bits(payload: &str, r: usize) -> String {
+    let bits: Vec<bool> = payload.chars().map(|c| c == '1').collect();
+    text(&checked(&[bits, vec![false; r]].concat(), r))
+}
+
+#[test]
+fn check_bits_by_hand() {
+    // r = 6 as in tests/bench.rs; the payload bit 1 adds D^6 = 100001
+    assert_eq!(check_bits("0", 6), "110101");
+    assert_eq!(check_bits("1", 6), "010100");
+    // r = 11: eleven ones, the payload bit 0 and eleven zeros; the bit 1 adds D^11 = 11000100001
+    //   11111111111000000000000
+    //   111000100001
+    //      111011111000
+    //      111000100001
+    //          110110010000
+    //          111000100001
+    //            111011000100
+    //            111000100001
+    //               01110010100
+    assert_eq!(check_bits("0", 11), "01110010100");
+    assert_eq!(check_bits("1", 11), "10110110101");
+    assert_eq!(check_bits("1011", 0), "");
+}
+
+/// The least t above 0 with D^t = 1 modulo the polynomial.
+fn order_of_d(r: usize) -> usize {
+    let mut power = vec![true];
+    loop {
+        power.push(false);
+        if register(0, &power, r) == 1 {
+            return power.len() - 1;
+        }
+    }
+}
+
+#[test]
+fn zeros_in_front_are_seen() {
+    let mut rng = Rng::new(6);
+    // D has order 63 where r = 6, so that 63 and 126 zeros alone go unseen, and 2047 where r = 11
+    for (r, order, unseen) in [(6, 63, &[63, 126][..]), (11, 2047, &[])] {
+        assert_eq!(order_of_d(r), order);
+        for zeros in 1..=127 {
+            let k = rng.within(r + 1, 128);
+            let bits = random(&mut rng, k);
+            let longer = [vec![false; zeros], bits.clone()].concat();
+            // without ones in front they change nothing
+            assert_eq!(remainder(&longer, r), remainder(&bits, r));
+            let [before, after] = [&bits, &longer].map(|bits| checked(bits, r));
+            assert_eq!(before == after, unseen.contains(&zeros), "{zeros} zeros");
+            // what they change is what a register of ones comes to in so many steps more
+            let [short, long] = [k, k + zeros]
+                .map(|steps| register_bits(register(ones(r), &vec![false; steps], r), r));
+            for power in 0..r {
+                assert_eq!(before[power] ^ after[power], short[power] ^ long[power]);
+            }
+        }
+    }
+}
+
+#[test]
+fn no_misreading_is_the_check() {
+    for r in [6, 11] {
+        for k in r + 1..=128 {
+            let payload = vec![0; k - r];
+            for misreading in MISREADINGS {
+                let bits = misreading.free_bits(&payload, r);
+                assert!(misreading.keeps(&bits, r));
+                // r ones behind are r ones in front where D^(K + r) = 1
+                let same = (r, misreading) == (6, Misreading::OnesBehind) && [57, 120].contains(&k);
+                assert_eq!(check_kept(&bits, r), same, "{misreading:?}, K {k}");
+                assert_eq!(checked(&bits, r) == vec![false; r], same);
+            }
+        }
+    }
 }
 
 #[test]
@@ -118,8 +204,7 @@ fn every_rule_and_the_check_is_kept() {
             .map(|t| (0..8).map(|i| t >> i & 1 == 1).collect::<Vec<bool>>())
             .filter(|u| keeps(&sheet, r, u))
             .inspect(|u| {
-                let sequence = checked_sequence(&free_bits(&sheet, u), r);
-                assert!(r == 0 || register(&sequence, 6, 0b100001) == 0);
+                assert!(check_kept(&free_bits(&sheet, u), r));
             })
             .count();
         assert_eq!(kept, 1 << (sheet.k() - r));

@@ -1,9 +1,10 @@
 // The sample lot, words drawn in any number, and what the programs are held to.
 
 mod common;
-use common::{folder, BEFORE};
+use common::{check_kept, folder, BEFORE};
 use second::answer::Answer;
 use second::calls::{self, answer_records, ANSWER_BYTES};
+use second::code::{free_bits, transform};
 use second::files::{compare, write, File};
 use second::lot::Lot;
 use second::make::bits;
@@ -99,8 +100,11 @@ fn the_lot_loses_the_same_cartridges_in_many_records() {
 #[test]
 fn unique_records_of_the_lot_give_back_their_text() {
     let lot = Lot::make();
+    let sheet = Sheet::read(7, &lot.sheet, 11).unwrap();
     for (at, record) in lot.answers().chunks(ANSWER_BYTES).enumerate() {
         if record[0] == 0 {
+            let word: Vec<bool> = record[8..136].iter().map(|&symbol| symbol == 1).collect();
+            assert!(check_kept(&free_bits(&sheet, &transform(&word)), 11));
             let mut payload = vec![BEFORE; 53];
             let answer = calls::read_back(7, &lot.sheet, 11, &record[8..136], &mut payload);
             assert_eq!(answer, Answer::code(0));

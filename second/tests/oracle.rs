@@ -2,7 +2,7 @@
 // and what depends on the losses alone.
 
 mod common;
-use common::{any_sheet, decode};
+use common::{any_sheet, check_kept, decode};
 use second::answer::Answer;
 use second::make::{any_codeword, bits, bytes, damaged, every_sheet, every_word};
 use second::rng::Rng;
@@ -186,7 +186,7 @@ fn losses_alone_decide_what_is_recovered() {
 #[test]
 fn ends_and_settled_places_of_long_words() {
     // where no list can be made: the ends agree, keep all rules and stand around what was stored
-    use second::code::{agrees, keeps, transform};
+    use second::code::{agrees, free_bits, keeps, transform};
     let mut rng = Rng::new(5);
     let mut ambiguous = 0;
     let mut settled_losses = 0;
@@ -204,6 +204,7 @@ fn ends_and_settled_places_of_long_words() {
                 for u in [&found.first, &found.last] {
                     let x = transform(u);
                     assert!(keeps(&sheet, r, u) && agrees(&x, &word));
+                    assert!(check_kept(&free_bits(&sheet, u), r));
                     assert!(agrees(&x, &found.settled));
                 }
                 for (j, &settled) in found.settled.iter().enumerate() {

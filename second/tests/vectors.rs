@@ -1,13 +1,15 @@
 // Requests and answers as bytes, and what the requests of the vectors must reach.
 
 mod common;
-use common::{sheet_e, symbols};
+use common::{check_kept, sheet_e, symbols};
 use second::answer::{Answer, OF_CODEC, OF_SHEET, ORDER};
-use second::code::{checked_sequence, free_bits, keeps, remainder, transform};
-use second::open;
+use second::calls::stream_numbers;
+use second::code::{free_bits, keeps, transform};
+use second::make::{codeword, word_of, Misreading, MISREADINGS};
 use second::protocol::{write_answer, Request};
 use second::requests;
 use second::sheet::Sheet;
+use second::{dense, open};
 use std::collections::{BTreeMap, BTreeSet};
 use std::sync::OnceLock;
 
@@ -172,7 +174,7 @@ fn every_list_has_its_size() {
         counts.push(list.len());
     }
     assert!((3_000..=3_600).contains(&counts[0]), "{counts:?}");
-    assert!((5_600..=6_200).contains(&(counts[1] + counts[3])));
+    assert!((5_800..=6_400).contains(&(counts[1] + counts[3])));
     assert!((20_000..=22_000).contains(&counts[2]), "{counts:?}");
     assert!((400..=600).contains(&counts[4]), "{counts:?}");
     assert!(sizes[0] + sizes[1] + sizes[3] < 7_500_000, "{sizes:?}");
@@ -510,12 +512,16 @@ fn payloads_reach_what_they_must() {
     }
 }
 
+/// The u of a word of which nothing is lost.
+fn u_of(word: &[u8]) -> Vec<bool> {
+    let symbols: Vec<bool> = word.iter().map(|&symbol| symbol == 1).collect();
+    transform(&symbols)
+}
+
 /// Whether a word keeps every frozen rule, and whether its free bits keep the check.
 fn kept(sheet: &Sheet, r: usize, word: &[u8]) -> (bool, bool) {
-    let word: Vec<bool> = word.iter().map(|&symbol| symbol == 1).collect();
-    let u = transform(&word);
-    let rest = remainder(&checked_sequence(&free_bits(sheet, &u), r), r);
-    (keeps(sheet, 0, &u), !rest.contains(&true))
+    let u = u_of(word);
+    (keeps(sheet, 0, &u), check_kept(&free_bits(sheet, &u), r))
 }
 
 #[test]
@@ -553,6 +559,147 @@ fn words_read_back_reach_what_they_must() {
     assert_eq!(zero.len(), 1 + 7 * 2);
 }
 
+/// The check lengths above 0 with every n that a good sheet can have.
+fn checks() -> Vec<(u16, u16)> {
+    choices().into_iter().filter(|&(_, r)| r > 0).collect()
+}
+
+/// n and r of a good request, and the words of it that are whole: handed in, or written by encode.
+fn whole_words(request: &Request, answer: &Answer, out: &[u8]) -> (u16, u16, Vec<Vec<u8>>) {
+    let [mut n, mut r] = [request.n, request.r];
+    let mut words = Vec::new();
+    match request.op {
+        1 if answer.code == 0 => words.push(out[..1 << n].to_vec()),
+        2 | 3 if answer.code <= 2 => words.push(request.b.clone()),
+        4 if answer.code == 0 => {
+            if let Ok(numbers) = stream_numbers(&request.a, &request.c) {
+                [n, r] = [numbers.0 as u16, numbers.1 as u16];
+                let records = out.chunks(392).zip(request.b.chunks(1 << n));
+                let answered = records.filter(|(record, _)| record[0] <= 2);
+                words.extend(answered.map(|(_, word)| word.to_vec()));
+            }
+        }
+        _ => {}
+    }
+    words.retain(|word| !word.contains(&2));
+    (n, r, words)
+}
+
+#[test]
+fn whole_words_tell_the_check_from_its_misreadings() {
+    for op in 1..=4 {
+        // how often, by n, r and misreading, the check is kept and not as it is misread, and how
+        // often the other way round
+        let mut told: BTreeMap<(u16, u16, Misreading), [usize; 2]> = BTreeMap::new();
+        for (request, answer, out) in answered(op) {
+            let (n, r, words) = whole_words(request, answer, out);
+            for word in words {
+                let sheet = Sheet::read(n.into(), &request.a, r.into()).unwrap();
+                let (rules, check) = kept(&sheet, r.into(), &word);
+                if r == 0 || !rules {
+                    continue;
+                }
+                let bits = free_bits(&sheet, &u_of(&word));
+                for misreading in MISREADINGS {
+                    if misreading.keeps(&bits, r.into()) != check {
+                        told.entry((n, r, misreading)).or_default()[usize::from(!check)] += 1;
+                    }
+                }
+            }
+        }
+        for (n, r) in checks() {
+            for misreading in MISREADINGS {
+                let [right, wrong] = told[&(n, r, misreading)];
+                assert!(right >= 4, "op {op}, n {n}, r {r}, {misreading:?}");
+                // encode writes no word of a check misread
+                let met = if op == 1 { wrong == 0 } else { wrong >= 2 };
+                assert!(met, "op {op}, n {n}, r {r}, {misreading:?}: {wrong}");
+            }
+        }
+    }
+}
+
+/// The code that decoding would give if the check were misread. The codewords are then the right
+/// ones, each turned over where two of the same payload differ.
+fn misread_code(request: &Request, misreading: Misreading) -> u16 {
+    let [n, r] = [request.n, request.r].map(usize::from);
+    let sheet = Sheet::read(n, &request.a, r).unwrap();
+    let payload = vec![0; sheet.k() - r];
+    let right = codeword(n, &request.a, r, &payload);
+    let wrong = word_of(&sheet, &misreading.free_bits(&payload, r));
+    let turned: Vec<u8> = (request.b.iter().zip(right.iter().zip(wrong)))
+        .map(|(&symbol, (right, wrong))| {
+            if symbol == 2 {
+                2
+            } else {
+                symbol ^ right ^ wrong
+            }
+        })
+        .collect();
+    dense::agreeing(&sheet, r, &turned).map_or(2, |found| found.d.min(1) as u16)
+}
+
+#[test]
+fn damaged_words_tell_the_check_from_its_misreadings() {
+    // inconsistent with some symbols lost, and unique or ambiguous if the check were misread
+    let mut told: BTreeMap<(u16, u16, Misreading), usize> = BTreeMap::new();
+    let mut codes = BTreeSet::new();
+    for (request, answer, _) in answered(2) {
+        if answer.code == 2 && request.r > 0 && request.b.contains(&2) {
+            for misreading in MISREADINGS {
+                let code = misread_code(request, misreading);
+                if code < 2 {
+                    *told.entry((request.n, request.r, misreading)).or_default() += 1;
+                    codes.insert((request.r, misreading, code));
+                }
+            }
+        }
+    }
+    for (n, r) in checks() {
+        for misreading in MISREADINGS {
+            let count = told.get(&(n, r, misreading)).copied().unwrap_or(0);
+            assert!(count >= 2, "n {n}, r {r}, {misreading:?}: {count}");
+        }
+    }
+    assert_eq!(codes.len(), 2 * MISREADINGS.len() * 2, "{codes:?}");
+}
+
+#[test]
+fn zeros_reach_what_they_must() {
+    let no_constant = |request: &Request| request.a.chunks(20).all(|record| record[1] == 0);
+    // payloads of zeros, and such as begin with a zero and have a one
+    let mut payloads = BTreeSet::new();
+    for (request, ..) in answered(1).iter().filter(|(_, answer, _)| answer.code == 0) {
+        let zero = !request.b.contains(&1);
+        if zero || request.b[0] == 0 {
+            payloads.insert((request.n, request.r, zero));
+        }
+    }
+    // words of which every symbol that was read is 0, by whether any is lost
+    let mut words = BTreeSet::new();
+    for op in [2, 3] {
+        for (request, answer, _) in answered(op) {
+            if answer.code <= 2 && no_constant(request) && !request.b.contains(&1) {
+                let lost = request.b.contains(&2);
+                words.insert((op, request.n, request.r, lost, answer.code));
+            }
+        }
+    }
+    for (n, r) in choices() {
+        // one bit of payload is all there is in one symbol
+        let both = if n == 0 { &[true][..] } else { &[true, false] };
+        for &zero in both {
+            assert!(payloads.contains(&(n, r, zero)), "n {n}, r {r}, {zero}");
+        }
+        for op in [2, 3] {
+            let whole = |code| words.contains(&(op, n, r, false, code));
+            assert_eq!([0, 1, 2].map(whole), [r == 0, false, r > 0], "n {n}, r {r}");
+        }
+        let damaged = |code| words.contains(&(2, n, r, true, code));
+        assert!(r == 0 || damaged(2), "n {n}, r {r}");
+    }
+}
+
 #[test]
 fn bench_rows_are_decoded() {
     let mut check = vec![0; 160];
@@ -588,8 +735,11 @@ fn bench_rows_are_decoded() {
             (&request.a, &request.b) == (sheet, &word)
                 && (request.r, request.ceiling) == (r, ceiling)
         });
-        let (_, answer, _) = found.unwrap_or_else(|| panic!("no row {word:?}"));
+        let (_, answer, out) = found.unwrap_or_else(|| panic!("no row {word:?}"));
         assert_eq!(answer.numbers(), expected, "{word:?}");
+        if (r, answer.code) == (6, 1) {
+            assert_eq!(out, &symbols("211222220110001111111100"));
+        }
     }
 }
 

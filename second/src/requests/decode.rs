@@ -3,8 +3,8 @@
 
 use super::faults;
 use super::parts::{
-    choices, every_none_free, first_middle_last, none_free_words, room, suited, symbols, Code,
-    CHECKS,
+    checked_codes, choices, every_none_free, first_middle_last, none_free_words, room, suited,
+    symbols, telling_words, Code, CHECKS,
 };
 use crate::code::ERASED;
 use crate::limits::{LARGEST_CEILING, LARGEST_EXPONENT};
@@ -27,6 +27,8 @@ pub fn all() -> Vec<Request> {
         every_loss(),
         every_burst(),
         any_words(),
+        ones_in_front(),
+        all_zero(),
     ]
     .concat()
 }
@@ -368,6 +370,36 @@ fn any_words() -> Vec<Request> {
             let word = any_losses(&mut rng, &code, &word);
             let ceiling = any_ceiling(&mut rng, &code, &word);
             list.push(decode_in_room(&mut rng, &code, word, ceiling));
+        }
+    }
+    list
+}
+
+/// Words by which the ones in front of the free bits are seen: whole, and with some losses.
+fn ones_in_front() -> Vec<Request> {
+    let mut rng = Rng::new(219);
+    let mut list = Vec::new();
+    for code in checked_codes(&mut rng) {
+        for word in telling_words(&mut rng, &code) {
+            let losses = rng.within(1, 3);
+            for word in [damaged(&mut rng, &word, losses), word] {
+                list.push(decode_in_room(&mut rng, &code, word, LARGEST_CEILING));
+            }
+        }
+    }
+    list
+}
+
+/// The all-zero word without a check, whole and with some losses; no constant is 1.
+fn all_zero() -> Vec<Request> {
+    let mut rng = Rng::new(220);
+    let mut list = Vec::new();
+    for n in 0..=LARGEST_EXPONENT {
+        let k = rng.within(1, 1 << n);
+        let code = Code::new(&mut rng, n, 0, k, STYLES[2]);
+        let word = vec![0; 1 << n];
+        for word in [damaged(&mut rng, &word, 2), word] {
+            list.push(decode_in_room(&mut rng, &code, word, LARGEST_CEILING));
         }
     }
     list

@@ -1,8 +1,10 @@
 // Op 1, encode: the refusals, and payloads for every N, check length and kind of sheet; the empty
-// payload where no position is free or the check leaves none.
+// payload where no position is free or the check leaves none; payloads that begin with zeros.
 
 use super::faults;
-use super::parts::{choices, every_none_free, first_middle_last, room, symbols, Code};
+use super::parts::{
+    checked_codes, choices, every_none_free, first_middle_last, room, symbols, zero_payloads, Code,
+};
 use crate::limits::LARGEST_EXPONENT;
 use crate::make::{bits, every_word, STYLES};
 use crate::protocol::Request;
@@ -17,6 +19,7 @@ pub fn all() -> Vec<Request> {
         single_bits(),
         small_codes(),
         no_payload(),
+        leading_zeros(),
     ]
     .concat()
 }
@@ -132,6 +135,18 @@ fn no_payload() -> Vec<Request> {
             let mut code = Code::new(&mut rng, n, 0, r, STYLES[3]);
             code.r = r;
             list.push(encode_in_room(&mut rng, &code, Vec::new()));
+        }
+    }
+    list
+}
+
+/// Payloads that begin with zeros, under a check.
+fn leading_zeros() -> Vec<Request> {
+    let mut rng = Rng::new(116);
+    let mut list = Vec::new();
+    for code in checked_codes(&mut rng) {
+        for payload in zero_payloads(&mut rng, code.payload()) {
+            list.push(encode_in_room(&mut rng, &code, payload));
         }
     }
     list

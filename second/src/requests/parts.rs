@@ -3,8 +3,8 @@
 
 use crate::limits::{LARGEST_EXPONENT, RECORD_BYTES};
 use crate::make::{
-    any_codeword, bytes, every_sheet, faults_at, frozen_at, frozen_faults_at, good, only_word,
-    spoil, Style, STYLES,
+    any_codeword, bits, bytes, codeword, every_sheet, faults_at, frozen_at, frozen_faults_at, good,
+    only_word, spoil, word_of, zeros_first, Misreading, Style, MISREADINGS, STYLES,
 };
 use crate::protocol::Request;
 use crate::rng::Rng;
@@ -204,6 +204,16 @@ impl Code {
         any_codeword(rng, self.n, &self.sheet, self.r)
     }
 
+    pub fn codeword_of(&self, payload: &[u8]) -> Vec<u8> {
+        codeword(self.n, &self.sheet, self.r, payload)
+    }
+
+    /// A word of any payload that keeps every rule, and the check as it is misread.
+    pub fn misread(&self, rng: &mut Rng, misreading: Misreading) -> Vec<u8> {
+        let payload = bits(rng, self.payload());
+        word_of(&self.read(), &misreading.free_bits(&payload, self.r))
+    }
+
     pub fn request(&self, op: u16, ceiling: usize, b: Vec<u8>, o: usize) -> Request {
         Request {
             op,
@@ -216,6 +226,41 @@ impl Code {
             o,
         }
     }
+}
+
+/// Codes by which the ones in front of the free bits are seen: every N and check length above 0,
+/// with the fewest free positions that r allows and any number. No constant is 1, so that the
+/// all-zero word keeps every rule.
+pub fn checked_codes(rng: &mut Rng) -> Vec<Code> {
+    let mut list = Vec::new();
+    for (n, r) in choices().into_iter().filter(|&(_, r)| r > 0) {
+        list.push(Code::new(rng, n, r, r + 1, STYLES[0]));
+        let k = rng.within(r + 1, 1 << n);
+        list.push(Code::new(rng, n, r, k, STYLES[2]));
+    }
+    list
+}
+
+/// Payloads that begin with zeros: all 0, 0 up to the last bit, and any such one.
+pub fn zero_payloads(rng: &mut Rng, length: usize) -> Vec<Vec<u8>> {
+    let mut last = vec![0; length];
+    last[length - 1] = 1;
+    let mut payloads = vec![vec![0; length], zeros_first(rng, length), last];
+    payloads.dedup();
+    payloads
+}
+
+/// Whole words of a code by which the ones are seen: all 0, the codewords of payloads that begin
+/// with zeros, and a word for each misreading of the check.
+pub fn telling_words(rng: &mut Rng, code: &Code) -> Vec<Vec<u8>> {
+    let mut words = vec![vec![0; code.length()]];
+    for payload in zero_payloads(rng, code.payload()) {
+        words.push(code.codeword_of(&payload));
+    }
+    for misreading in MISREADINGS {
+        words.push(code.misread(rng, misreading));
+    }
+    words
 }
 
 /// The symbols of a text such as 02200220.

@@ -1,8 +1,11 @@
 // Op 3, read_back: the refusals, whole codewords, and words that break a frozen rule, the check
-// or both.
+// or both, some of them words that keep the check as it could be misread.
 
 use super::faults;
-use super::parts::{choices, every_none_free, first_middle_last, none_free_words, room, Code};
+use super::parts::{
+    checked_codes, choices, every_none_free, first_middle_last, none_free_words, room,
+    telling_words, Code,
+};
 use crate::code::transform;
 use crate::limits::LARGEST_EXPONENT;
 use crate::make::{bits, every_word, STYLES};
@@ -21,6 +24,7 @@ pub fn all() -> Vec<Request> {
         plain_words(),
         small_codes(),
         no_payload(),
+        ones_in_front(),
     ]
     .concat()
 }
@@ -197,6 +201,18 @@ fn no_payload() -> Vec<Request> {
         let (code, word, other) = none_free_words(&mut rng, n);
         list.push(read_back(&mut rng, &code, word, 0));
         list.push(read_back(&mut rng, &code, other, 1));
+    }
+    list
+}
+
+/// Words by which the ones in front of the free bits are seen.
+fn ones_in_front() -> Vec<Request> {
+    let mut rng = Rng::new(319);
+    let mut list = Vec::new();
+    for code in checked_codes(&mut rng) {
+        for word in telling_words(&mut rng, &code) {
+            list.push(read_in_room(&mut rng, &code, word));
+        }
     }
     list
 }

@@ -1,9 +1,10 @@
 // Op 4, stream: inputs of whole and cut-off words, sheets and choices of wrong lengths, words
-// refused one by one, sheets with no free position, and rooms at the edge.
+// refused one by one, sheets with no free position, rooms at the edge, and words that keep the
+// check as it could be misread.
 
 use super::parts::{
-    any_checks, any_style, choices, every_none_free, first_middle_last, none_free, spoil_frozen,
-    spoil_somehow, symbols, Code,
+    any_checks, any_style, checked_codes, choices, every_none_free, first_middle_last, none_free,
+    spoil_frozen, spoil_somehow, symbols, telling_words, Code,
 };
 use crate::calls::ANSWER_BYTES;
 use crate::limits::{LARGEST_EXPONENT, RECORD_BYTES};
@@ -24,6 +25,7 @@ pub fn all() -> Vec<Request> {
         no_free_position(),
         rooms(),
         longest(),
+        ones_in_front(),
     ]
     .concat()
 }
@@ -350,6 +352,18 @@ fn longest() -> Vec<Request> {
         input.truncate(bytes);
         let request = stream(&mut rng, code.sheet, vec![0, 63], input);
         list.push(Request { o, ..request });
+    }
+    list
+}
+
+/// Words by which the ones in front of the free bits are seen, one after the other.
+fn ones_in_front() -> Vec<Request> {
+    let mut rng = Rng::new(411);
+    let mut list = Vec::new();
+    for code in checked_codes(&mut rng) {
+        let input = telling_words(&mut rng, &code).concat();
+        let choice = vec![code.r as u8, 63];
+        list.push(stream(&mut rng, code.sheet, choice, input));
     }
     list
 }

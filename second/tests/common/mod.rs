@@ -1,4 +1,5 @@
-// What the tests share: sheet E, random sheets, calls on a marked buffer, and empty folders.
+// What the tests share: sheet E, random sheets, calls on a marked buffer, the check by a register,
+// and empty folders.
 #![allow(dead_code)] // each test file uses a part of it
 
 use second::answer::Answer;
@@ -65,6 +66,41 @@ pub fn decode(
         assert!(out.iter().all(|&byte| byte == BEFORE), "untouched");
         (answer, None)
     }
+}
+
+/// The bits that a register of r bits, holding `start`, is left with when a sequence has gone in
+/// bit by bit: the remainder, where it starts from 0.
+pub fn register(start: u32, sequence: &[bool], r: usize) -> u32 {
+    // the polynomial without its highest power
+    let low = match r {
+        6 => 0b100001,
+        11 => 0b11000100001,
+        r => panic!("no check of length {r}"),
+    };
+    let mut state = start;
+    for &bit in sequence {
+        let top = state >> (r - 1) & 1;
+        state = (state << 1 | u32::from(bit)) & ones(r);
+        if top == 1 {
+            state ^= low;
+        }
+    }
+    state
+}
+
+/// A register of r bits full of ones.
+pub fn ones(r: usize) -> u32 {
+    (1 << r) - 1
+}
+
+/// Whether K free bits keep the check: the register starts from ones.
+pub fn check_kept(free_bits: &[bool], r: usize) -> bool {
+    r == 0 || register(ones(r), free_bits, r) == 0
+}
+
+/// The r bits of a register, the highest power first.
+pub fn register_bits(state: u32, r: usize) -> Vec<bool> {
+    (0..r).rev().map(|power| state >> power & 1 == 1).collect()
 }
 
 /// An empty folder for one test.
