@@ -10,13 +10,13 @@ use lib.ListN.{length, take, drop, length-map}
 use lib.Seq.{take-at}
 use lib.Dec.{ltb}
 use borrow.Author.Tests.{le-ltb}
-use Rattle.bits.specs.Vectors.{bit, pick, keep, tab, ones}
+use Rattle.bits.specs.Vectors.{bit, pick, keep, tab}
 use Rattle.meaning.specs.Limits.{largestCeiling}
 use Rattle.meaning.specs.Transform.{polar}
 use Rattle.meaning.specs.Sheet.{Rule, rules, frees}
 use Rattle.meaning.specs.Check.{keeps}
-use Rattle.meaning.specs.Codewords.{erased, candidates}
-use Rattle.meaning.specs.Open.{unknowns, equations}
+use Rattle.meaning.specs.Codewords.{candidates}
+use Rattle.meaning.specs.Open.{equations}
 use Rattle.meaning.specs.Strips.{settledAt, settled, strips}
 use Rattle.meaning.specs.Payload.{encoded}
 use Rattle.meaning.specs.Answers.{Reply, refuses, isDone, isOne, sheetRefusals, wordRefusals, encodeRefusals, leaving, writing, verdict, encoding, decoding}
@@ -24,18 +24,13 @@ use Rattle.meaning.specs.declared.Answer.{Answer}
 use Rattle.meaning.specs.declared.Answer.the-variants.{Done, Unique, TooMany}
 use Rattle.meaning.proofs.Polar.{length-polar, polar-polar}
 use Rattle.meaning.proofs.Sound.{length-rules}
-use Rattle.meaning.proofs.Gap.{g-le-erased}
+use Rattle.meaning.proofs.Gap.{nothing-lost}
 use Rattle.meaning.proofs.Encode.{encoded-keeps}
 use Rattle.meaning.proofs.Refusals.{none-append}
 use Rattle.meaning.proofs.Forms.{good, worded}
 use Rattle.meaning.proofs.ReadBack.{whole, encode-is, word-none, encoded-none}
 use Rattle.decoder.specs.Deciding.{deciding}
 use Rattle.decoder.proofs.Deciding.{form-none, decode-formed}
-
-none-erased : (x : List Bool) → ones (map erased (map bit x)) ≡ 0
-none-erased [] = refl
-none-erased (true ∷ x) = omega (arith, none-erased x)
-none-erased (false ∷ x) = omega (arith, none-erased x)
 
 -- one candidate is settled everywhere
 settled-one : (x : List Bool) → tab (length x) (settledAt (x ∷ [])) ≡ map bit x
@@ -54,9 +49,6 @@ module _ (n : ℕ) (s : List ℕ) (r c : ℕ) (out : List ℕ) (x : List Bool) (
   word-fine : refuses (wordRefusals (2 ^ n) 2 (3 * 2 ^ n) w (length out)) ≡ false
   word-fine = word-none (2 ^ n) 2 (3 * 2 ^ n) x (length out) (omega arith) lx room
 
-  no-unknown : unknowns n (rules n s) w ≡ 0
-  no-unknown = omega (arith, g-le-erased n (rules n s) w (length-map x bit ∙ lx), none-erased x)
-
   itself : candidates n (rules n s) r w ≡ x ∷ []
   itself = whole n (rules n s) r x lx ∙ ap (λ (b : Bool). keep b x []) k
 
@@ -68,7 +60,7 @@ module _ (n : ℕ) (s : List ℕ) (r c : ℕ) (out : List ℕ) (x : List Bool) (
   unfolding deciding verdict
   decoded-whole =
       sym (decode-formed n s r c w out (form-none n s r c w out ok word-fine low))
-      ∙ ap₂ (λ (g : ℕ) (cs : List (List Bool)). pick (ltb c g) (leaving out (TooMany g)) (verdict n g m cs out)) no-unknown itself
+      ∙ ap₂ (λ (g : ℕ) (cs : List (List Bool)). pick (ltb c g) (leaving out (TooMany g)) (verdict n g m cs out)) (nothing-lost n (rules n s) x lx) itself
       ∙ ap (λ (b : Bool). pick b (leaving out (TooMany 0)) (verdict n 0 m (x ∷ []) out)) (le-ltb c 0 (omega arith))
       ∙ ap (λ (t : List ℕ). writing t out (Unique 0 m)) three-times
 

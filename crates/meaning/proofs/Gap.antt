@@ -2,6 +2,7 @@
 --     number           0 or a power of two codewords agree
 --     d-le-g           if 2 ^ d agree, d is at most g
 --     g-le-erased      g is at most the number of erased symbols
+--     nothing-lost     so g is 0 where nothing is
 --     open-erased      as many positions are open as symbols are erased
 use mathlib.Core.Path.{_≡_, refl, sym, ap, ap₂, _∙_}
 use mathlib.Core.Logic.{_⊎_}
@@ -14,7 +15,7 @@ use mathlib.Core.List.{List, [], _∷_, _++_, map}
 use lib.ListN.{length, getD, take, drop, length-append, length-map}
 use lib.Seq.{take-append-seam, getD-append-seam}
 use lib.Pow.{pow-lt}
-use Rattle.bits.specs.Vectors.{_⊕_, allBits, any, count, zeros, same, ones, odd}
+use Rattle.bits.specs.Vectors.{_⊕_, bit, allBits, any, count, zeros, same, ones, odd}
 use Rattle.bits.proofs.Rising.{bits-any}
 use Rattle.bits.proofs.Tests.{and-l, and-r, and-i, tab-at, length-tab}
 use Rattle.bits.proofs.Xor.{⊕-self, eq-⊕, ⊞-self, zeros-none}
@@ -115,6 +116,15 @@ g-le-erased n ks w l = rw (open-list n (map erased w) (length-map w erased ∙ l
     sub (k ∷ ks) [] = omega arith
     sub (free ∷ ks) (b ∷ o) = omega (arith, sub ks o)
     sub (frozen c m ∷ ks) (b ∷ o) = omega (arith, sub ks o)
+
+-- where nothing is lost, g is 0
+pub nothing-lost : (n : ℕ) (ks : List Rule) (x : List Bool) → length x ≡ 2 ^ n → unknowns n ks (map bit x) ≡ 0
+nothing-lost n ks x l = omega (arith, g-le-erased n ks (map bit x) (length-map x bit ∙ l), none-erased x)
+  where
+    none-erased : (x : List Bool) → ones (map erased (map bit x)) ≡ 0
+    none-erased [] = refl
+    none-erased (true ∷ x) = omega (arith, none-erased x)
+    none-erased (false ∷ x) = omega (arith, none-erased x)
 
 -- the number of open positions equals the number of erased symbols
 pub open-erased : (n : ℕ) (w : List ℕ) → length w ≡ 2 ^ n → ones (openAll n w) ≡ ones (map erased w)

@@ -1,8 +1,8 @@
 -- What it is for that the check starts from ones: a stuck run of leading zeros is caught.
---     zeros-unseen       with nothing in front, zeros put before a sequence go unseen
+--     zeros-unseen       with nothing in front, as 01 had it, zeros put before a sequence go unseen
 --     stuck-caught       free bits that are all 0 do not keep the check, however many they are
---     run-caught         of free bits that keep the check, none do with a run of zeros put before them: up to 62 zeros for r = 6, 2046 for r = 11
---     run-unseen         for r = 6 and 63 zeros they do: no check of r bits sees a run of every length
+--     run-caught         free bits that keep the check do not, once a run of zeros is put before them: up to 62 for r = 6, 2046 for r = 11
+--     run-unseen         63 zeros go unseen for r = 6, as D to the 63 is 1
 --     stuck-read, stuck-decoded     a word of zeros, nothing lost, is inconsistent
 use mathlib.Core.Path.{_≡_, refl, sym, ap, ap₂, _∙_}
 use mathlib.Core.Logic.{_⊎_, ⊎-elim}
@@ -10,21 +10,21 @@ use Prim.Native.Nat.{ℕ, zero, suc, _+_, _^_, _≤_, _<_}
 use native.Mathlib.Omega.{arith}
 use mathlib.Core.Bool.{Bool, true, false, _&&_, not, false≢true}
 use mathlib.Core.List.{List, [], _∷_, _++_, map, map-id}
-use lib.ListN.{length, drop, getD, replicate, length-append, length-replicate}
+use lib.ListN.{length, drop, getD, replicate, length-append}
 use lib.Dec.{eqb}
-use Rattle.bits.specs.Vectors.{_⊞_, bit, keep, ones, pick, zeros}
+use Rattle.bits.specs.Vectors.{_⊞_, bit, keep, pick, zeros}
 use Rattle.bits.proofs.Tests.{and-l, and-r, and-false}
 use Rattle.bits.proofs.Xor.{none, ⊞-none, ⊞-self, length-⊞, length-none, is-none, zeros-none, zeros-append, zeros-eq}
 use Rattle.meaning.specs.Limits.{leads}
 use Rattle.meaning.specs.Transform.{polar}
 use Rattle.meaning.specs.Sheet.{Rule, free, frozen, rules}
 use Rattle.meaning.specs.Check.{keepsRules, freeBits, shift, rest, poly, divides, keeps}
-use Rattle.meaning.specs.Codewords.{erased, candidates, payloadOf}
+use Rattle.meaning.specs.Codewords.{candidates, payloadOf}
 use Rattle.meaning.specs.Open.{unknowns, equations}
 use Rattle.meaning.specs.Answers.{isOne, numbersOf, refuses, formRefusals, readRefusals, leaving, writing, decoding, readingBack}
 use Rattle.meaning.specs.declared.Answer.the-variants.{Done, Inconsistent}
 use Rattle.meaning.proofs.Open.{polar-none}
-use Rattle.meaning.proofs.Gap.{g-le-erased}
+use Rattle.meaning.proofs.Gap.{nothing-lost}
 use Rattle.meaning.proofs.ReadBack.{whole, read-is, ones-back}
 use Rattle.meaning.proofs.Demands.{inconsistent-iff}
 use Rattle.meaning.proofs.Affine.{rest-⊞}
@@ -77,6 +77,7 @@ module _ (g h : List Bool) (term : g ≡ h ++ (true ∷ [])) where
 
 -- ---- the two polynomials
 
+-- there is a check
 abbrev pub Check : ℕ → Type 0
 Check r = (r ≡ 6) ⊎ (r ≡ 11)
 
@@ -98,7 +99,7 @@ away-at g s x (suc m) zero h l e =
     false≢true (sym (ap not z) ∙ and-l (not (zeros (shift g x false ⊞ s))) _ h)
 away-at g s x (suc m) (suc t) h l e = away-at g s (shift g x false) m t (and-r (not (zeros (shift g x false ⊞ s))) _ h) (omega arith) e
 
--- the longest run of zeros that is caught, whatever stands behind it
+-- every run of up to so many zeros is caught, whatever stands behind it
 unfoldable pub longestRun : ℕ → ℕ
 longestRun r = pick (eqb r 6) 62 2046
 
@@ -140,7 +141,7 @@ module _ (r : ℕ) (k : Check r) where
       (λ x. away-at (poly r) (leads r) (leads r) (longestRun r) t (runs r k) (omega arith)
       (comes-back (poly r) q e (leads r) f (suc t) full (left-none r f d) (left-none r (none (suc t) ++ f) x)))
 
--- D to the 63 is 1 modulo the polynomial of length 6
+-- D to the 63 is 1 modulo the polynomial: the register is back where it was
 once : rest (poly 6) (leads 6) (replicate 63 false) ≡ leads 6
 unfolding poly leads
 once = refl
@@ -162,10 +163,6 @@ unfolding none
 zero-bits zero = refl
 zero-bits (suc m) = ap {B = List ℕ} (λ t. 0 ∷ t) (zero-bits m)
 
-none-erased : (m : ℕ) → ones (map erased (replicate m 0)) ≡ 0
-none-erased zero = refl
-none-erased (suc m) = omega (arith, none-erased m)
-
 module _ (n : ℕ) (ks : List Rule) (r : ℕ) (k : Check r) where
   stuck-kept : keeps ks r (polar n (none (2 ^ n))) ≡ false
   unfolding keeps none
@@ -185,7 +182,7 @@ module _ (n : ℕ) (s : List ℕ) (r : ℕ) (out : List ℕ) (k : Check r) where
 
   pub stuck-decoded : (c : ℕ) → refuses (formRefusals n s r c stuck out) ≡ false → numbersOf ((decoding n s r c stuck out) .answer) ≡ 2 ∷ 0 ∷ 0 ∷ equations n (rules n s) r stuck ∷ 0 ∷ []
   stuck-decoded c ok =
-      let g : unknowns n (rules n s) stuck ≡ 0 = omega (arith, g-le-erased n (rules n s) stuck (length-replicate (2 ^ n) 0), none-erased (2 ^ n)) in
+      let g : unknowns n (rules n s) stuck ≡ 0 = ap (unknowns n (rules n s)) (zero-bits (2 ^ n)) ∙ nothing-lost n (rules n s) (none (2 ^ n)) (length-none (2 ^ n)) in
       rw g at (inconsistent-iff n s r c stuck out ok (omega arith) .1 (ap length (stuck-alone n (rules n s) r k)))
 
   pub stuck-read : refuses (readRefusals n s r stuck out) ≡ false → readingBack n s r stuck out ≡ leaving out (Inconsistent 0 0)

@@ -54,6 +54,6 @@ divides r v = zeros (rest (poly r) (replicate r false) v)
 
 -- ---- both
 
--- u keeps every frozen rule, and its free bits keep the check
+-- u keeps every frozen rule and the check: the polynomial divides r ones followed by the free bits
 unfoldable pub keeps : List Rule → ℕ → List Bool → Bool
 keeps ks r u = keepsRules ks u u && divides r (leads r ++ freeBits ks u)
