@@ -1,6 +1,7 @@
 -- What it is for that the check starts from ones: a stuck run of leading zeros is caught.
 --     zeros-unseen       with nothing in front, as 01 had it, zeros put before a sequence go unseen
 --     stuck-caught       free bits that are all 0 do not keep the check, however many they are
+--     old-caught         nor do any free bits that kept the check as 01 had it
 --     run-caught         free bits that keep the check do not, once a run of zeros is put before them: up to 62 for r = 6, 2046 for r = 11
 --     run-unseen         63 zeros go unseen for r = 6, as D to the 63 is 1
 --     stuck-read, stuck-decoded     a word of zeros, nothing lost, is inconsistent
@@ -14,7 +15,7 @@ use lib.ListN.{length, drop, getD, replicate, length-append}
 use lib.Dec.{eqb}
 use Rattle.bits.specs.Vectors.{_⊞_, bit, keep, pick, zeros}
 use Rattle.bits.proofs.Tests.{and-l, and-r, and-false}
-use Rattle.bits.proofs.Xor.{none, ⊞-none, ⊞-self, length-⊞, length-none, is-none, zeros-none, zeros-append, zeros-eq}
+use Rattle.bits.proofs.Xor.{append-⊞, none, ⊞-none, ⊞-self, length-⊞, length-none, is-none, zeros-none, zeros-append, zeros-eq}
 use Rattle.meaning.specs.Limits.{leads}
 use Rattle.meaning.specs.Transform.{polar}
 use Rattle.meaning.specs.Sheet.{Rule, free, frozen, rules}
@@ -27,7 +28,7 @@ use Rattle.meaning.proofs.Open.{polar-none}
 use Rattle.meaning.proofs.Gap.{nothing-lost}
 use Rattle.meaning.proofs.ReadBack.{whole, read-is, ones-back}
 use Rattle.meaning.proofs.Demands.{inconsistent-iff}
-use Rattle.meaning.proofs.Affine.{rest-⊞}
+use Rattle.meaning.proofs.Affine.{rest-⊞, divides-⊞}
 use Rattle.meaning.proofs.Remainder.{length-shift, length-rest, length-poly, rest-append, scale-none}
 use Rattle.meaning.proofs.Divide.{R-zeros}
 use Rattle.meaning.proofs.Ones.{length-leads, starts-from}
@@ -131,6 +132,15 @@ module _ (r : ℕ) (k : Check r) where
   stuck-caught m =
       let (h, e) = term r k in
       refuted (divides r (leads r ++ replicate m false)) (λ d. false≢true (sym (not-zeros r k) ∙ ap zeros (back-all (poly r) h e m (leads r) full (left-none r (none m) d)) ∙ zeros-none (length (poly r))))
+
+  -- what 01's rule let pass, the check catches: the two differ by what is left of the ones
+  pub old-caught : (f : List Bool) → divides r f ≡ true → divides r (leads r ++ f) ≡ false
+  unfolding none
+  old-caught f d =
+      let l : List Bool = leads r in
+      let same : length (l ++ f) ≡ length (none r ++ f) = simp (length-append, length-leads, length-none) in
+      let sum : (l ++ f) ⊞ (none r ++ f) ≡ l ++ none (length f) = append-⊞ l f (none r) f (length-leads r ∙ sym (length-none r)) ∙ ap₂ {C = List Bool} _++_ (⊞-none l r (length-leads r)) (⊞-self f) in
+      refuted (divides r (l ++ f)) (λ x. false≢true (sym (stuck-caught (length f)) ∙ ap (divides r) (sym sum) ∙ divides-⊞ r (l ++ f) (none r ++ f) same x (zeros-unseen r r f ∙ d)))
 
   pub run-caught : (t : ℕ) (f : List Bool) → 1 ≤ t → t ≤ longestRun r → divides r (leads r ++ f) ≡ true → divides r (leads r ++ (replicate t false ++ f)) ≡ false
   unfolding none
