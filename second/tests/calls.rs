@@ -3,23 +3,17 @@
 
 mod common;
 use common::{
-    any_sheet, check_kept, decode, numbers, ones, register, register_bits, symbols, BEFORE,
+    any_sheet, check_kept, decode, numbers, ones, register, register_bits, symbols, u_of, BEFORE,
 };
 use second::answer::{Answer, OF_CODEC, OF_SHEET, ORDER};
 use second::calls::{self, ANSWER_BYTES};
-use second::code::{free_bits, transform};
+use second::code::free_bits;
 use second::make::{
     any_codeword, bits, bytes, damaged, every_sheet, good, only_word, word_of, Misreading,
     MISREADINGS, STYLES,
 };
 use second::rng::Rng;
 use second::sheet::Sheet;
-
-/// The u of a word of which nothing is lost.
-fn u_of(word: &[u8]) -> Vec<bool> {
-    let symbols: Vec<bool> = word.iter().map(|&symbol| symbol == 1).collect();
-    transform(&symbols)
-}
 
 #[test]
 fn written_reads_back() {

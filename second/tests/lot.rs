@@ -1,10 +1,10 @@
 // The sample lot, words drawn in any number, and what the programs are held to.
 
 mod common;
-use common::{check_kept, folder, BEFORE};
+use common::{check_kept, folder, u_of, BEFORE};
 use second::answer::Answer;
 use second::calls::{self, answer_records, ANSWER_BYTES};
-use second::code::{free_bits, transform};
+use second::code::free_bits;
 use second::files::{compare, write, File};
 use second::lot::Lot;
 use second::make::bits;
@@ -103,8 +103,7 @@ fn unique_records_of_the_lot_give_back_their_text() {
     let sheet = Sheet::read(7, &lot.sheet, 11).unwrap();
     for (at, record) in lot.answers().chunks(ANSWER_BYTES).enumerate() {
         if record[0] == 0 {
-            let word: Vec<bool> = record[8..136].iter().map(|&symbol| symbol == 1).collect();
-            assert!(check_kept(&free_bits(&sheet, &transform(&word)), 11));
+            assert!(check_kept(&free_bits(&sheet, &u_of(&record[8..136])), 11));
             let mut payload = vec![BEFORE; 53];
             let answer = calls::read_back(7, &lot.sheet, 11, &record[8..136], &mut payload);
             assert_eq!(answer, Answer::code(0));

@@ -1,10 +1,10 @@
 // Requests and answers as bytes, and what the requests of the vectors must reach.
 
 mod common;
-use common::{check_kept, sheet_e, symbols};
+use common::{check_kept, sheet_e, symbols, u_of};
 use second::answer::{Answer, OF_CODEC, OF_SHEET, ORDER};
 use second::calls::stream_numbers;
-use second::code::{free_bits, keeps, transform};
+use second::code::{free_bits, keeps};
 use second::make::{codeword, word_of, Misreading, MISREADINGS};
 use second::protocol::{write_answer, Request};
 use second::requests;
@@ -510,12 +510,6 @@ fn payloads_reach_what_they_must() {
             assert!(empty.contains(&(n, r, 13)), "n {n}, r {r}");
         }
     }
-}
-
-/// The u of a word of which nothing is lost.
-fn u_of(word: &[u8]) -> Vec<bool> {
-    let symbols: Vec<bool> = word.iter().map(|&symbol| symbol == 1).collect();
-    transform(&symbols)
 }
 
 /// Whether a word keeps every frozen rule, and whether its free bits keep the check.

@@ -4,6 +4,7 @@
 
 use second::answer::Answer;
 use second::calls;
+use second::code::transform;
 use second::limits::RECORD_BYTES;
 use second::make::{good, STYLES};
 use second::rng::Rng;
@@ -101,6 +102,12 @@ pub fn check_kept(free_bits: &[bool], r: usize) -> bool {
 /// The r bits of a register, the highest power first.
 pub fn register_bits(state: u32, r: usize) -> Vec<bool> {
     (0..r).rev().map(|power| state >> power & 1 == 1).collect()
+}
+
+/// The u of a word of which nothing is lost.
+pub fn u_of(word: &[u8]) -> Vec<bool> {
+    let symbols: Vec<bool> = word.iter().map(|&symbol| symbol == 1).collect();
+    transform(&symbols)
 }
 
 /// An empty folder for one test.
