@@ -23,6 +23,7 @@ use Rattle.bits.proofs.RowLaws.{row-fit}
 use Rattle.meaning.specs.Limits.{leads}
 use Rattle.meaning.specs.Sheet.{Rule, free, ruleAt, byte}
 use Rattle.meaning.specs.Check.{poly, terms}
+use Rattle.meaning.proofs.Remainder.{length-poly}
 use Rattle.model.specs.Model.{freeOf, sums, scaled, shiftOf, restOf, checks}
 use Rattle.counting.proofs.Counting.{rule-free, rule-frozen}
 use Rattle.checks.specs.Registers.{wordValues, unitWord, column, tapsOf, moved, fedAt, fed, fedAll, remainder}
@@ -61,10 +62,6 @@ tap-is r j h = go (eqb r 6) (eqb r 11) refl refl
     go true y p q = let e = eqb-true r 6 p in let i : j < 6 = omega arith in rw e (six j i)
     go false true p q = let e = eqb-true r 11 q in let i : j < 11 = omega arith in rw e (eleven j i)
     go false false p q = rw (tab-at r (λ (k : ℕ). false) j false h, zero-div (2 ^ j)) refl
-
-pub length-poly : (r : ℕ) → length (poly r) ≡ r
-unfolding poly
-length-poly r = length-tab r _
 
 -- ---- the model's register
 
