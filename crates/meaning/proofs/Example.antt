@@ -2,23 +2,20 @@
 --     divided-0, divided-1     the division, by hand: what is left after each bit, from six ones on; the last is the check bits
 --     two-kept                 the u that keep the rule and the check are 0, payload, check bits: 00110101 and 01010100
 use mathlib.Core.Path.{_≡_, refl}
-use Prim.Native.Nat.{ℕ, zero, suc, _/_, _%_}
+use Prim.Native.Nat.{ℕ}
 use mathlib.Core.Bool.{Bool, false}
 use mathlib.Core.List.{List, [], _∷_, map}
 use lib.ListN.{replicate}
-use lib.Dec.{eqb}
 use Rattle.bits.specs.Vectors.{allBits, filter}
 use Rattle.meaning.specs.Limits.{leads}
 use Rattle.meaning.specs.Sheet.{free, frozen}
 use Rattle.meaning.specs.Check.{poly, shift, keeps}
+use Rattle.meaning.specs.Answers.{isOne}
+use Rattle.meaning.specs.Bench.{digits}
 
 -- k bits, written as a decimal number
-abbrev digits : ℕ → ℕ → List Bool → List Bool
-digits zero n l = l
-digits (suc k) n l = digits k (n / 10) (eqb (n % 10) 1 ∷ l)
-
 abbrev written : ℕ → ℕ → List Bool
-written k n = digits k n []
+written k n = map isOne (digits k n [])
 
 -- what is left after each bit
 abbrev lefts : List Bool → List Bool → List Bool → List (List Bool)
