@@ -1,5 +1,6 @@
 -- The archivist's demands 2 and 3, of `decoding`, the definition that decode's promise cites.
 -- Standing premise: no fault of form, and room to answer, so that no refusal but 18 applies; the sheet has K at least 1.
+--     under                under the ceiling, decoding is the verdict on the candidates
 --     over-iff             18 exactly when g passes the ceiling
 --     unique-iff           unique exactly when one codeword agrees
 --     inconsistent-iff     inconsistent exactly when none does
@@ -134,7 +135,7 @@ module _ (n : ℕ) (s : List ℕ) (r c : ℕ) (w out : List ℕ) (ok : refuses (
   over : c < g → decoding n s r c w out ≡ leaving out (TooMany g)
   over h = judged ∙ rw (lt-ltb c g h)
 
-  under : g ≤ c → decoding n s r c w out ≡ verdict n g m cs out
+  pub under : g ≤ c → decoding n s r c w out ≡ verdict n g m cs out
   under h = judged ∙ rw (le-ltb c g h)
 
   numbers-under : g ≤ c → numbersOf ((decoding n s r c w out) .answer) ≡ codeBy (length cs) ∷ 0 ∷ g ∷ m ∷ dBy (length cs) ∷ []

@@ -13,7 +13,7 @@ use Rattle.bits.specs.Vectors.{_⊞_, zeros}
 use Rattle.bits.proofs.Xor.{⊕-false, ⊞-comm, ⊞-cancel, length-⊞, none, ⊞-none, length-none, ⊞-self, is-none, zeros-none}
 use Rattle.meaning.specs.Check.{shift, rest, poly, divides}
 use Rattle.meaning.proofs.Affine.{rest-⊞}
-use Rattle.meaning.proofs.Remainder.{length-poly, rest-append, rest-small, scale-none, length-rest}
+use Rattle.meaning.proofs.Remainder.{length-poly, rest-append, rest-fills, scale-none, length-rest}
 
 abbrev pub scale : Bool → List Bool → List Bool
 scale b g = map (λ (x : Bool). b && x) g
@@ -92,7 +92,7 @@ module _ (g : List Bool) where
       R-false (scale false g ++ none k) ∙ ap (λ (t : List Bool). R (t ++ none k)) (scale-none g) ∙ rest-append g (none (length g)) (none (length g)) (none k)
       ∙ ap (λ (s : List Bool). rest g s (none k)) (R-none (length g)) ∙ R-none k
 
-  R-⊞ : (u v : List Bool) → length u ≡ length v → R (u ⊞ v) ≡ R u ⊞ R v
+  pub R-⊞ : (u v : List Bool) → length u ≡ length v → R (u ⊞ v) ≡ R u ⊞ R v
   R-⊞ u v h =
       ap (λ (s : List Bool). rest g s (u ⊞ v)) (sym (⊞-none (none (length g)) (length g) (length-none (length g)))) ∙ rest-⊞ g (none (length g)) (none (length g)) u v refl h
 
@@ -109,7 +109,7 @@ module _ (g : List Bool) where
 
   pub quotient : (k : ℕ) (f : List Bool) → length f ≡ length g + k → R f ≡ none (length g) → (q : List Bool) × (length q ≡ k) × (f ≡ times g q)
   quotient zero f h e =
-      ([], refl, sym (ap (λ (m : ℕ). rest g (none m) f) (let q : length g ≡ length f = omega arith in q) ∙ ap (λ (t : List Bool). rest g t f) (sym (append-nil (none (length f)))) ∙ rest-small g [] f (omega arith)) ∙ e)
+      ([], refl, sym (rest-fills g f (omega arith)) ∙ e)
   quotient (suc k) [] h e = absurd (omega arith)
   quotient (suc k) (b ∷ f) h e =
       let s : List Bool = scale b g ++ none k in

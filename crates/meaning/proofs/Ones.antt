@@ -5,18 +5,16 @@
 use mathlib.Core.Path.{_≡_, refl, sym, ap, ap₂, _∙_}
 use mathlib.Core.Logic.{_↔_}
 use Prim.Native.Nat.{ℕ, _+_}
-use native.Mathlib.Omega.{arith}
 use mathlib.Core.Bool.{Bool, true, false}
-use mathlib.Core.List.{List, [], _++_, append-nil, append-assoc}
+use mathlib.Core.List.{List, _++_, append-assoc}
 use lib.ListN.{length, replicate, length-append, length-replicate}
 use Rattle.bits.specs.Vectors.{_⊞_}
 use Rattle.bits.proofs.Xor.{⊞-comm, append-⊞, none, ⊞-none, length-none}
 use Rattle.meaning.specs.Limits.{leads}
 use Rattle.meaning.specs.Payload.{remainder}
 use Rattle.meaning.specs.Check.{rest, poly, divides}
-use Rattle.meaning.proofs.Affine.{rest-⊞}
-use Rattle.meaning.proofs.Remainder.{length-poly, rest-append, rest-small}
-use Rattle.meaning.proofs.Divide.{times, R-zeros, divides-iff}
+use Rattle.meaning.proofs.Remainder.{length-poly, rest-append, rest-fills}
+use Rattle.meaning.proofs.Divide.{times, R, R-⊞, R-zeros, divides-iff}
 
 pub length-leads : (r : ℕ) → length (leads r) ≡ r
 unfolding leads
@@ -26,10 +24,8 @@ length-leads r = length-replicate r _
 pub starts-from : (r : ℕ) (v : List Bool) → rest (poly r) (replicate r false) (leads r ++ v) ≡ rest (poly r) (leads r) v
 unfolding none
 starts-from r v =
-    let c : List Bool = leads r in
-    let e : replicate r false ≡ none (length c) ++ [] = ap none (sym (length-leads r)) ∙ sym (append-nil (none (length c))) in
-    rest-append (poly r) (replicate r false) c v
-    ∙ ap (λ (s : List Bool). rest (poly r) s v) (ap (λ (s : List Bool). rest (poly r) s c) e ∙ rest-small (poly r) [] c (omega (arith, length-leads r, length-poly r)))
+    rest-append (poly r) (replicate r false) (leads r) v
+    ∙ ap (λ (s : List Bool). rest (poly r) s v) (ap (λ (k : ℕ). rest (poly r) (replicate k false) (leads r)) (sym (length-poly r)) ∙ rest-fills (poly r) (leads r) (length-leads r ∙ sym (length-poly r)))
 
 -- the free bits f keep the check exactly when r ones and f are the polynomial times some q of as many bits as f
 pub ones-divided : (r : ℕ) (f : List Bool) → (divides r (leads r ++ f) ≡ true) ↔ ((q : List Bool) × (length q ≡ length f) × (leads r ++ f ≡ times (poly r) q))
@@ -45,8 +41,8 @@ remainder-⊞ : (g a b : List Bool) → length a ≡ length b → remainder g (a
 unfolding none remainder
 remainder-⊞ g a b h =
     let o : List Bool = none (length g) in
-    let oo : o ⊞ o ≡ o = ⊞-none o (length g) (length-none (length g)) in
-    ap₂ (rest g) (sym oo) (ap (λ (t : List Bool). (a ⊞ b) ++ t) (sym oo) ∙ sym (append-⊞ a o b o h)) ∙ rest-⊞ g o o (a ++ o) (b ++ o) refl (length-append a o ∙ ap (λ (k : ℕ). k + length o) h ∙ sym (length-append b o))
+    ap (R g) (ap (λ (t : List Bool). (a ⊞ b) ++ t) (sym (⊞-none o (length g) (length-none (length g)))) ∙ sym (append-⊞ a o b o h))
+    ∙ R-⊞ g (a ++ o) (b ++ o) (length-append a o ∙ ap (λ (k : ℕ). k + length o) h ∙ sym (length-append b o))
 
 remainder-zeros : (g : List Bool) (t : ℕ) (p : List Bool) → remainder g (none t ++ p) ≡ remainder g p
 unfolding none remainder

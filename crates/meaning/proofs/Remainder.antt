@@ -47,6 +47,10 @@ rest-small g d (b ∷ c) h =
     (ap (λ (t : List Bool). ((none (length c) ++ d) ++ (b ∷ [])) ⊞ t) (scale-none g) ∙ ⊞-none ((none (length c) ++ d) ++ (b ∷ [])) (length g) l ∙ append-assoc (none (length c)) d (b ∷ []))
     ∙ rest-small g (d ++ (b ∷ [])) c (simp length-append (omega arith)) ∙ append-assoc d (b ∷ []) c
 
+-- so r bits that are shifted into zeros are what is left of them
+pub rest-fills : (g c : List Bool) → length c ≡ length g → rest g (none (length g)) c ≡ c
+rest-fills g c h = ap (λ (s : List Bool). rest g s c) (ap none (sym h) ∙ sym (append-nil (none (length c)))) ∙ rest-small g [] c (omega arith)
+
 module _ (g p : List Bool) where
   rest-check : (c : List Bool) → length c ≡ length g → rest g (none (length g)) (p ++ c) ≡ remainder g p ⊞ c
   unfolding none remainder
@@ -55,11 +59,10 @@ module _ (g p : List Bool) where
       let o : List Bool = none (length g) in
       let lo : length o ≡ length g = length-none (length g) in
       let ls : length s ≡ length g = length-rest g o p lo in
-      let small : rest g o c ≡ c = ap (λ (t : List Bool). rest g t c) (ap none (sym h) ∙ sym (append-nil (none (length c)))) ∙ rest-small g [] c (omega arith) in
       rest-append g o p c
       ∙ ap₂ (λ (x y : List Bool). rest g x y) (sym (⊞-none s (length g) ls)) (sym (⊞-comm o c ∙ ⊞-none c (length g) h))
       ∙ rest-⊞ g s o o c (ls ∙ sym lo) (lo ∙ sym h)
-      ∙ ap₂ _⊞_ (sym (rest-append g o p o)) small
+      ∙ ap₂ _⊞_ (sym (rest-append g o p o)) (rest-fills g c h)
 
 pub length-remainder : (g p : List Bool) → length (remainder g p) ≡ length g
 unfolding none remainder

@@ -4,7 +4,7 @@
 --     old-caught         nor do any free bits that kept the check as 01 had it
 --     run-caught         free bits that keep the check do not, once a run of zeros is put before them: up to 62 for r = 6, 2046 for r = 11
 --     run-unseen         63 zeros go unseen for r = 6, as D to the 63 is 1
---     stuck-read, stuck-decoded     a word of zeros, nothing lost, is inconsistent
+--     stuck-read, stuck-decoded     a word of zeros, nothing lost, is inconsistent, and the output stays as found
 use mathlib.Core.Path.{_≡_, refl, sym, ap, ap₂, _∙_}
 use mathlib.Core.Logic.{_⊎_, ⊎-elim}
 use Prim.Native.Nat.{ℕ, zero, suc, _+_, _^_, _≤_, _<_}
@@ -22,12 +22,12 @@ use Rattle.meaning.specs.Sheet.{Rule, free, frozen, rules}
 use Rattle.meaning.specs.Check.{keepsRules, freeBits, shift, rest, poly, divides, keeps}
 use Rattle.meaning.specs.Codewords.{candidates, payloadOf}
 use Rattle.meaning.specs.Open.{unknowns, equations}
-use Rattle.meaning.specs.Answers.{isOne, numbersOf, refuses, formRefusals, readRefusals, leaving, writing, decoding, readingBack}
+use Rattle.meaning.specs.Answers.{isOne, refuses, formRefusals, readRefusals, leaving, writing, verdict, decoding, readingBack}
 use Rattle.meaning.specs.declared.Answer.the-variants.{Done, Inconsistent}
 use Rattle.meaning.proofs.Open.{polar-none}
 use Rattle.meaning.proofs.Gap.{nothing-lost}
 use Rattle.meaning.proofs.ReadBack.{whole, read-is, ones-back}
-use Rattle.meaning.proofs.Demands.{inconsistent-iff}
+use Rattle.meaning.proofs.Demands.{under}
 use Rattle.meaning.proofs.Affine.{rest-⊞, divides-⊞}
 use Rattle.meaning.proofs.Remainder.{length-shift, length-rest, length-poly, rest-append, scale-none}
 use Rattle.meaning.proofs.Divide.{R-zeros}
@@ -190,10 +190,11 @@ module _ (n : ℕ) (s : List ℕ) (r : ℕ) (out : List ℕ) (k : Check r) where
   abbrev stuck : List ℕ
   stuck = replicate (2 ^ n) 0
 
-  pub stuck-decoded : (c : ℕ) → refuses (formRefusals n s r c stuck out) ≡ false → numbersOf ((decoding n s r c stuck out) .answer) ≡ 2 ∷ 0 ∷ 0 ∷ equations n (rules n s) r stuck ∷ 0 ∷ []
+  pub stuck-decoded : (c : ℕ) → refuses (formRefusals n s r c stuck out) ≡ false → decoding n s r c stuck out ≡ leaving out (Inconsistent 0 (equations n (rules n s) r stuck))
+  unfolding verdict
   stuck-decoded c ok =
       let g : unknowns n (rules n s) stuck ≡ 0 = ap (unknowns n (rules n s)) (zero-bits (2 ^ n)) ∙ nothing-lost n (rules n s) (none (2 ^ n)) (length-none (2 ^ n)) in
-      rw g at (inconsistent-iff n s r c stuck out ok (omega arith) .1 (ap length (stuck-alone n (rules n s) r k)))
+      under n s r c stuck out ok (omega arith) ∙ ap₂ (λ (g : ℕ) (cs : List (List Bool)). verdict n g (equations n (rules n s) r stuck) cs out) g (stuck-alone n (rules n s) r k)
 
   pub stuck-read : refuses (readRefusals n s r stuck out) ≡ false → readingBack n s r stuck out ≡ leaving out (Inconsistent 0 0)
   stuck-read ok =

@@ -1,5 +1,5 @@
--- The numbers that 01 fixes, and the bits that W-204 puts before the check, each in one place. No law depends on their values but the
--- examples (proofs/Example, Bench) and what is said of the check's ones (proofs/Ones, Stuck).
+-- The numbers that 01 fixes, and the bits that W-204 puts before the check, each in one place. The laws of this crate do not depend on
+-- their values, but for the examples (proofs/Example, Bench) and what is said of the check's ones (proofs/Ones, Stuck).
 --     largestN          N = 2 ^ n symbols, n from 0 to this
 --     maskBytes         bytes of a record's mask
 --     recordBytes       bytes of a record of the sheet: 4, then the mask
