@@ -22,7 +22,7 @@ use Rattle.meaning.specs.Check.{freeBits}
 use Rattle.meaning.specs.Payload.{place}
 use Rattle.meaning.specs.Answers.{isOne}
 use Rattle.division.proofs.Division.{bit-small}
-use Rattle.codec.specs.Packed.{held, Holds}
+use Rattle.codec.specs.Packed.{maskWords, held, Holds}
 use Rattle.codec.specs.Ready.{AreBits}
 use Rattle.codec.proofs.Packing.{holds-none, holds-more, odd-held}
 
@@ -66,19 +66,19 @@ module _ (s : List ℕ) (size : ℕ) where
     pub record Placing (u v : List ℕ) (next i : ℕ) : Type 0 where
       pub low : i ≤ size
       pub long : length u ≡ size
-      pub wide : length v ≡ maskBytes
+      pub wide : length v ≡ maskWords
       pub bits : AreBits (take i u)
       pub holds : Holds v (map isOne (take i u))
       pub room : next + frees (drop i ks) ≡ length f
       pub left : map isOne (take i u) ++ place (drop i ks) (map isOne (take i u)) (drop next f) ≡ place ks [] f
 
-    pub starts : (u : List ℕ) → length u ≡ size → length f ≡ frees ks → Placing u (replicate maskBytes 0) 0 0
+    pub starts : (u : List ℕ) → length u ≡ size → length f ≡ frees ks → Placing u (replicate maskWords 0) 0 0
     starts u l e = record {
       low = omega arith;
       long = l;
-      wide = length-replicate maskBytes 0;
+      wide = length-replicate maskWords 0;
       bits = refl;
-      holds = holds-none maskBytes;
+      holds = holds-none maskWords;
       room = omega arith;
       left = refl;
     }
@@ -88,7 +88,7 @@ module _ (s : List ℕ) (size : ℕ) where
       c = map isOne (take i u)
 
       abbrev put : ℕ → List ℕ
-      put x = set v (i / 8) (bitXor (getD v (i / 8) 0) (x * 2 ^ (i % 8)))
+      put x = set v (i / 64) (bitXor (getD v (i / 64) 0) (x * 2 ^ (i % 64)))
 
       length-c : length c ≡ i
       length-c = length-map (take i u) isOne ∙ simp length-take (omega (arith, p .long))
@@ -96,6 +96,7 @@ module _ (s : List ℕ) (size : ℕ) where
       -- the value x of a bit b at position i, with what is left
       goes : size ≤ 8 * maskBytes → (x : ℕ) (b : Bool) (next′ : ℕ) → x ≡ bit b → place (drop i ks) c (drop next f) ≡ b ∷ place (drop (suc i) ks) (c ++ (b ∷ [])) (drop next′ f)
           → next′ + frees (drop (suc i) ks) ≡ length f → Placing (set u i x) (put x) next′ (i + 1)
+      unfolding maskBytes
       goes small x b next′ ex el er =
           let hu : i < length u = omega (arith, p .long) in
           let t : take (i + 1) (set u i x) ≡ take i u ++ (x ∷ []) = rw (add-one i) (take-suc-set u i x hu) in
@@ -103,7 +104,7 @@ module _ (s : List ℕ) (size : ℕ) where
           record {
             low = omega arith;
             long = length-set u i x ∙ p .long;
-            wide = length-set v (i / 8) _ ∙ p .wide;
+            wide = length-set v (i / 64) _ ∙ p .wide;
             bits = ap (map bit) cb ∙ map-append bit c (b ∷ []) ∙ ap₂ {C = List ℕ} (λ (l : List ℕ) (y : ℕ). l ++ (y ∷ [])) (p .bits) (sym ex) ∙ sym t;
             holds = rw (cb, ex) (holds-more v c b i (sym length-c) (omega (arith, p .wide)) (p .holds));
             room = rw (add-one i) er;

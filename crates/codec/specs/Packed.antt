@@ -1,25 +1,27 @@
--- Values of positions, packed so that a record's mask can be counted against them word by word. The words are bytes, as the mask's.
---     unpacked w v    the bits of words of w bits, one word after the other
---     held v          the values that packed words hold
---     Holds v c       they are those of c, and 0 past its end
---     maskOf s i      the bytes of record i's mask
+-- Values of positions, packed into words of 64 bits so that a record's mask can be counted against them word by word.
+--     maskWords         words of a record's mask
+--     maskWord s i k    word k of record i's mask: whether it names position 64 k and the 63 after it
+--     held v            the values that packed words hold: their bits, one word after the other
+--     Holds v c         they are those of c, and 0 past its end
 use mathlib.Core.Path.{_≡_}
-use Prim.Native.Nat.{ℕ, _+_, _*_}
+use Prim.Native.Nat.{ℕ, _+_, _*_, _/_}
 use mathlib.Core.Bool.{Bool, false}
 use mathlib.Core.List.{List, [], _∷_, _++_}
-use lib.ListN.{take, drop, getD}
+use lib.ListN.{getD}
+use Rattle.bits.specs.Vectors.{tab}
 use Rattle.bits.specs.Words.{wordBits}
-use Rattle.meaning.specs.Limits.{maskBytes, recordBytes}
+use Rattle.meaning.specs.Limits.{maskBytes}
+use Rattle.meaning.specs.Sheet.{names}
 
-unfoldable pub unpacked : ℕ → List ℕ → List Bool
-unpacked w [] = []
-unpacked w (a ∷ v) = wordBits w a ++ unpacked w v
+abbrev pub maskWords : ℕ
+maskWords = maskBytes / 8
+
+unfoldable pub maskWord : List ℕ → ℕ → ℕ → List Bool
+maskWord s i k = tab 64 (λ (t : ℕ). names s i (64 * k + t))
 
 unfoldable pub held : List ℕ → List Bool
-held v = unpacked 8 v
+held [] = []
+held (a ∷ v) = wordBits 64 a ++ held v
 
 abbrev pub Holds : List ℕ → List Bool → Type 0
 Holds v c = (j : ℕ) → getD (held v) j false ≡ getD c j false
-
-abbrev pub maskOf : List ℕ → ℕ → List ℕ
-maskOf s i = take maskBytes (drop (i * recordBytes + 4) s)

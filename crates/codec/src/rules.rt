@@ -6,14 +6,18 @@ ghost use lib.ListN.{length, getD, set};
 ghost use lib.Bits.{bitXor};
 ghost use lib.Dec.{eqb};
 ghost use Rattle.bits.specs.Vectors.{_⊕_, bit, tab, odd};
+ghost use Rattle.bits.specs.Words.{wordBits};
 ghost use Rattle.meaning.specs.Limits.{recordBytes, maskBytes};
 ghost use Rattle.meaning.specs.Sheet.{byte, mask, ruleAt, frees};
 ghost use Rattle.meaning.specs.Check.{freeBits};
 ghost use Rattle.meaning.specs.Payload.{place};
 ghost use Rattle.meaning.specs.Answers.{isOne};
-ghost use Rattle.codec.specs.Packed.{held};
+ghost use Rattle.codec.specs.Packed.{maskWords, maskWord, held};
 ghost use Rattle.codec.specs.Ready.{AreBits, Tells};
 use meaning::limits;
+
+// Words of 64 bits of a record's mask, and of the values that it is counted against.
+const WORDS: usize = limits::MASK / 8;
 
 // Byte k of record i.
 fn byte_at(sheet: &[u8], i: usize, k: usize) -> u8
@@ -30,24 +34,37 @@ fn wide(x: u8) -> u64
     x as u64
 }
 
+// Word k of record i's mask.
+fn mask_word(sheet: &[u8], i: usize, k: usize) -> u64
+    requires { ⌜ (k < maskWords) × ((i + 1) * recordBytes ≤ length (now sheet)) ⌝ }
+    ensures { λ r. ⌜ wordBits 64 r ≡ maskWord (now (sheet .entry)) i k ⌝ }
+{
+    let mut x: u64 = 0;
+    let mut c = 0;
+    while c < 8 {
+        x = x + (wide(byte_at(sheet, i, 4 + (8 * k + c))) << (8 * c));
+        c += 1;
+    }
+    x
+}
+
 // 1 if an odd number of the positions that record i names hold 1, else 0: the count of ones of mask and value words.
-fn odd_named(sheet: &[u8], i: usize, values: &[u8]) -> u8
-    requires { ⌜ ((i + 1) * recordBytes ≤ length (now sheet)) × (length (now values) ≡ maskBytes) ⌝ }
+fn odd_named(sheet: &[u8], i: usize, values: &[u64]) -> u8
+    requires { ⌜ ((i + 1) * recordBytes ≤ length (now sheet)) × (length (now values) ≡ maskWords) ⌝ }
     ensures { λ r. ⌜ r ≡ bit (odd (mask (now (sheet .entry)) i) (held (now (values .entry)))) ⌝ }
 {
-    let at = i * limits::RECORD + 4;
     let mut o: u8 = 0;
     let mut k = 0;
-    while k < limits::MASK {
-        o = o ^ bits::parity(wide(sheet[at + k]), wide(values[k]));
+    while k < WORDS {
+        o = o ^ bits::parity(mask_word(sheet, i, k), values[k]);
         k += 1;
     }
     o
 }
 
 // What the rule of a frozen record i says of u_i: the constant, flipped if an odd number of the named positions hold 1.
-fn rule_bit(sheet: &[u8], i: usize, values: &[u8]) -> u8
-    requires { ⌜ ((i + 1) * recordBytes ≤ length (now sheet)) × (length (now values) ≡ maskBytes) ⌝ }
+fn rule_bit(sheet: &[u8], i: usize, values: &[u64]) -> u8
+    requires { ⌜ ((i + 1) * recordBytes ≤ length (now sheet)) × (length (now values) ≡ maskWords) ⌝ }
     ensures { λ r. ⌜ r ≡ bit (eqb (byte (now (sheet .entry)) i 1) 1 ⊕ odd (mask (now (sheet .entry)) i) (held (now (values .entry)))) ⌝ }
 {
     let o = odd_named(sheet, i, values);
@@ -55,11 +72,11 @@ fn rule_bit(sheet: &[u8], i: usize, values: &[u8]) -> u8
 }
 
 // Puts the value b of position i in.
-fn remember(values: &mut [u8], i: usize, b: u8)
-    requires { ⌜ (i < 8 * length (now values)) × (b < 2) ⌝ }
-    ensures { λ _. ⌜ now (values .exit) ≡ set (now (values .entry)) (i / 8) (bitXor (getD (now (values .entry)) (i / 8) 0) (b * 2 ^ (i % 8))) ⌝ }
+fn remember(values: &mut [u64], i: usize, b: u8)
+    requires { ⌜ ((i < 8 * maskBytes) × (length (now values) ≡ maskWords)) × (b < 2) ⌝ }
+    ensures { λ _. ⌜ now (values .exit) ≡ set (now (values .entry)) (i / 64) (bitXor (getD (now (values .entry)) (i / 64) 0) (b * 2 ^ (i % 64))) ⌝ }
 {
-    values[i / 8] = values[i / 8] ^ (b << (i % 8));
+    values[i / 64] = values[i / 64] ^ (wide(b) << (i % 64));
 }
 
 // Writes the vector u that the rules give for these free bits.
@@ -68,7 +85,7 @@ pub fn place_bits(sheet: &[u8], free: &[u8], u: &mut [u8])
     requires { ⌜ AreBits (now free) × (length (now free) ≡ frees (tab (length (now u)) (ruleAt (now sheet)))) ⌝ }
     ensures { λ _. ⌜ now (u .exit) ≡ map bit (place (tab (length (now (u .entry))) (ruleAt (now (sheet .entry)))) [] (map isOne (now (free .entry)))) ⌝ }
 {
-    let mut values = [0u8; limits::MASK];
+    let mut values = [0u64; WORDS];
     let mut next = 0;
     let mut i = 0;
     while i < u.len() {

@@ -1,36 +1,56 @@
-use mathlib.Core.Path.{ap}
-use Prim.Native.Nat.{ℕ, _/_, _%_}
+use mathlib.Core.Path.{ap, _∙_}
+use Prim.Native.Nat.{ℕ, _*_, _/_, _%_, _^_}
 use native.Mathlib.Nat.{mod-eq-of-lt}
 use native.Mathlib.Omega.{arith}
 use lib.ListN.{getD, set}
 use lib.Bits.{bitXor}
 use borrow.Author.Needs.{needs}
+use Rattle.meaning.specs.Limits.{maskBytes}
 use Rattle.codec.proofs.Packing.{small-shift}
 use Rattle.codec.proofs.rules.remember.Statement.{statement}
 use Rattle.codec.proofs.rules.remember.Tie as tie
 
-slice-read-values : tie.Need-slice-read-values
-slice-read-values c = search needs
+mul-values : tie.Need-mul-values
+unfolding maskBytes
+mul-values c = omega arith
 
-cast-values : tie.Need-cast-values
-cast-values c = search needs
+slice-read-values : tie.Need-slice-read-values
+unfolding maskBytes
+slice-read-values c = omega arith
+
+wide-requires : tie.Need-wide-requires
+wide-requires c κs = search needs
 
 shl-values : tie.Need-shl-values
 shl-values c = search needs
 
+mul-values-2 : tie.Need-mul-values-2
+unfolding maskBytes
+mul-values-2 c = omega arith
+
 slice-write-values : tie.Need-slice-write-values
-slice-write-values c = search needs
+unfolding maskBytes
+slice-write-values c = omega arith
 
 same-length : tie.Need-same-length
 same-length c = search needs
 
 returns : tie.Need-returns
 returns c =
-    let start = c .before in
-    ap (λ (x : ℕ). set (start .args .values .now) (start .args .i / 8) (bitXor (getD (start .args .values .now) (start .args .i / 8) 0) x))
-    (mod-eq-of-lt (small-shift (start .args .b) (start .args .i % 8) (start .pre .1) (omega arith)))
+    let start = c .before .before .before in
+    let i = start .args .i in
+    ap (λ (x : ℕ). set (start .args .values .now) (i / 64) (bitXor (getD (start .args .values .now) (i / 64) 0) x))
+    (ap (λ (x : ℕ). x * 2 ^ (i % 64) % 2 ^ 64) (c .wide .ensures .0) ∙ mod-eq-of-lt (small-shift (start .args .b) (i % 64) (start .pre .1) (omega arith)))
 
 pub remember-spec : {M : Type 1} → statement M
 remember-spec =
     tie.close
-    (tie.spec slice-read-values cast-values shl-values slice-write-values same-length returns)
+    (tie.spec
+    mul-values
+    slice-read-values
+    wide-requires
+    shl-values
+    mul-values-2
+    slice-write-values
+    same-length
+    returns)
