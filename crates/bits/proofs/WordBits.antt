@@ -3,23 +3,25 @@
 --     bit-top, bit-above     the highest 1, and none above it
 --     leading-bit            the leading zeros say where the highest 1 is
 --     no-bits                a word none of whose bits is 1 is 0
+--     bit-same, bit-other    the bits of a power of 2
 --     length-wordBits, wordBits-tab     the vector of the lowest bits
 --     odd-wordBits           the parity of an AND by it
+--     join-bits, join-lt     two words side by side
 use mathlib.Core.Path.{_≡_, refl, sym, ap, ap₂, _∙_}
 use mathlib.Core.Logic.{⊎-elim}
-use Prim.Native.Nat.{ℕ, zero, suc, _+_, _/_, _%_, _^_, _≤_, _<_}
+use Prim.Native.Nat.{ℕ, zero, suc, _+_, _*_, _-_, _/_, _%_, _^_, _≤_, _<_}
 use native.Mathlib.Omega.{arith}
-use native.Mathlib.Nat.{pow-suc, div-one, div-div-eq-div-mul, div-eq-of-lt, div-eq-of-lt-le, lt-of-lt-of-le, eq-zero-or-pos}
+use native.Mathlib.Nat.{zero-add, suc-add, mul-assoc, mul-le-mul-right, pow-suc, div-one, div-div-eq-div-mul, div-eq-of-lt, div-eq-of-lt-le, lt-of-lt-of-le, eq-zero-or-pos}
 use mathlib.Core.Bool.{Bool, true, false, _&&_, true≢false}
-use mathlib.Core.List.{List, _∷_}
+use mathlib.Core.List.{List, _∷_, _++_}
 use lib.ListN.{length}
 use lib.Arith.{lt-one}
-use lib.Pow.{pow-mono}
+use lib.Pow.{pow-pos, pow-mono, pow-add, shl-shr}
 use lib.Bits.{bitAnd, bitXor, and-zero-r}
 use lib.Count.{ones, ones-step, leadingZeros, leading-top}
 use lib.Dec.{eqb}
 use Rattle.bits.specs.Vectors.{_⊕_, odd, tab}
-use Rattle.bits.proofs.Tests.{tab-ext}
+use Rattle.bits.proofs.Tests.{tab-ext, le-or-lt}
 use Rattle.bits.specs.Words.{bitAt, parityOf, hasBit, oddOf, wordBits}
 use Rattle.bits.proofs.Words.{bit-cases, mod-two, and-half, and-low, parity-of-xor, bit-xor}
 
@@ -65,6 +67,25 @@ no-bits n x f h =
     (λ (p : 0 < x). let (j, s, b, a) = leading-bit n x p f in absurd (true≢false (sym b ∙ h j (omega arith))))
     (eq-zero-or-pos x)
 
+-- ---- a power of 2
+
+pub bit-same : (j : ℕ) → hasBit (2 ^ j) j ≡ true
+bit-same j = bit-top (2 ^ j) j (omega arith) (omega (arith, pow-pos j))
+
+bit-below : (j i : ℕ) → i < j → hasBit (2 ^ j) i ≡ false
+bit-below j i h =
+    let s : suc (j - suc i) + i ≡ j = omega arith in
+    let q : 2 ^ j / 2 ^ i ≡ 2 ^ suc (j - suc i) = ap (λ (x : ℕ). 2 ^ x / 2 ^ i) (sym s) ∙ ap (λ (x : ℕ). x / 2 ^ i) (pow-add 2 (suc (j - suc i)) i) ∙ shl-shr (2 ^ suc (j - suc i)) i in
+    let z : 2 ^ suc (j - suc i) % 2 ≡ 0 = omega arith in
+    ap (λ (x : ℕ). eqb (x % 2) 1) q ∙ ap (λ (x : ℕ). eqb x 1) z
+
+pub bit-other : (j i : ℕ) → (i ≡ j → ⊥) → hasBit (2 ^ j) i ≡ false
+bit-other j i n =
+    ⊎-elim (λ (l : i ≤ j). bit-below j i (differ l)) (λ (l : j < i). bit-above (2 ^ j) (suc j) i (omega (arith, pow-pos j)) l) (le-or-lt i j)
+  where
+    differ : i ≤ j → i < j
+    differ l = ⊎-elim (λ (q : j ≤ i). absurd (n (omega arith))) (λ (q : i < j). q) (le-or-lt j i)
+
 -- ---- all bits
 
 pub length-wordBits : (n a : ℕ) → length (wordBits n a) ≡ n
@@ -91,3 +112,21 @@ wordBits-tab zero a = refl
 wordBits-tab (suc n) a =
     ap₂ {C = List Bool} _∷_ (ap (λ (x : ℕ). eqb (x % 2) 1) (sym (div-one a)))
     (wordBits-tab n (a / 2) ∙ tab-ext n (hasBit (a / 2)) (λ (j : ℕ). hasBit a (suc j)) (λ j. ap (λ (x : ℕ). eqb x 1) (sym (bit-suc a j))))
+
+-- ---- two words side by side: a in the n lowest bits, b in the next m
+
+pub join-bits : (n m a b : ℕ) → a < 2 ^ n → wordBits (n + m) (a + b * 2 ^ n) ≡ wordBits n a ++ wordBits m b
+unfolding wordBits
+join-bits zero m a b h = rw (zero-add m) (ap (wordBits m) (omega arith))
+join-bits (suc n) m a b h =
+    let t : ℕ = b * 2 ^ n in
+    let e : b * 2 ^ suc n ≡ 2 * t = ap (λ (p : ℕ). b * p) (pow-suc 2 n) ∙ sym (mul-assoc b (2 ^ n) 2) ∙ omega arith in
+    let o : (a + b * 2 ^ suc n) % 2 ≡ a % 2 = omega (arith, e) in
+    let q : (a + b * 2 ^ suc n) / 2 ≡ a / 2 + t = omega (arith, e) in
+    ap (λ (k : ℕ). wordBits k (a + b * 2 ^ suc n)) (suc-add n m)
+    ∙ ap₂ {C = List Bool} (λ (c d : ℕ). eqb c 1 ∷ wordBits (n + m) d) o q ∙ ap {B = List Bool} (λ l. eqb (a % 2) 1 ∷ l) (join-bits n m (a / 2) b (omega (arith, pow-suc 2 n)))
+
+pub join-lt : (n m a b : ℕ) → a < 2 ^ n → b < 2 ^ m → a + b * 2 ^ n < 2 ^ (n + m)
+join-lt n m a b ha hb =
+    let l : (b + 1) * 2 ^ n ≤ 2 ^ m * 2 ^ n = mul-le-mul-right (2 ^ n) (omega arith) in
+    rw (pow-add 2 n m) (omega (arith, l))

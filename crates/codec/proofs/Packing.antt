@@ -7,24 +7,23 @@
 use mathlib.Core.Path.{_≡_, refl, sym, ap, ap₂, _∙_}
 use Prim.Native.Nat.{ℕ, zero, suc, _+_, _*_, _/_, _%_, _^_, _<_, _≤_}
 use native.Mathlib.Omega.{arith}
-use native.Mathlib.Nat.{suc-inj, div-one, mod-lt, zero-add, suc-add, zero-div, zero-mul, one-mul, mul-assoc, mul-le-mul-right, lt-of-lt-of-le, pow-suc}
+use native.Mathlib.Nat.{suc-inj, mod-lt, zero-mul, one-mul, lt-of-lt-of-le}
 use native.Mathlib.Decide.{decLt, ℕ-discrete}
 use native.Mathlib.Numerals.{add-one}
 use mathlib.Core.Bool.{Bool, true, false, _&&_}
 use mathlib.Core.List.{List, [], _∷_, _++_, append-assoc, append-nil}
 use lib.ListN.{length, take, getD, set, length-take, length-append, length-set, replicate}
 use lib.Seq.{take-suc, take-all, getD-set-same, getD-set-other, getD-append-seam}
-use lib.Dec.{eqb, eqb·suc-suc}
-use lib.Bits.{bitAnd, bitXor, shifted-even, shifted-half}
-use lib.Pow.{pow-lt, pow-mono, pow-add, shl-exact}
+use lib.Dec.{eqb}
+use lib.Bits.{bitAnd, bitXor}
+use lib.Pow.{pow-lt, pow-mono, shl-exact}
 use lib.Count.{ones}
-use borrow.Author.Tests.{eq-eqb, ne-eqb, eqb-false}
-use Rattle.bits.specs.Vectors.{_⊕_, bit, pick, tab, odd}
-use Rattle.bits.specs.Words.{bitAt, hasBit, parityOf, wordBits}
-use Rattle.bits.proofs.Xor.{⊕-assoc, ⊕-comm}
-use Rattle.bits.proofs.Tests.{length-tab, tab-at, tab-below, tab-ext, tab-append}
-use Rattle.bits.proofs.Words.{bit-xor}
-use Rattle.bits.proofs.WordBits.{length-wordBits, odd-wordBits, wordBits-tab, bit-suc}
+use borrow.Author.Tests.{eq-eqb, ne-eqb}
+use Rattle.bits.specs.Vectors.{_⊕_, bit, tab, odd}
+use Rattle.bits.specs.Words.{hasBit, parityOf, wordBits}
+use Rattle.bits.proofs.Xor.{⊕-assoc, ⊕-comm, ⊕-false}
+use Rattle.bits.proofs.Tests.{and-false, length-tab, tab-at, tab-below, tab-ext, tab-append}
+use Rattle.bits.proofs.WordBits.{hasBit-xor, zero-bit, bit-same, bit-other, length-wordBits, odd-wordBits, wordBits-tab, join-bits, join-lt}
 use Rattle.meaning.specs.Limits.{maskBytes}
 use Rattle.meaning.specs.Sheet.{byte, names, mask}
 use Rattle.meaning.specs.Answers.{isOne}
@@ -32,7 +31,7 @@ use Rattle.codec.specs.Packed.{maskWords, maskWord, held, Holds}
 
 -- ---- two words
 
-pub parity-low : (a b : ℕ) → parityOf a b < 2
+parity-low : (a b : ℕ) → parityOf a b < 2
 parity-low a b = mod-lt (ones (bitAnd a b)) (omega arith)
 
 bit-back : (x : ℕ) → x < 2 → x ≡ bit (isOne x)
@@ -81,7 +80,8 @@ module _ (f : ℕ → Bool) (v : List ℕ) where
   unfolding held
   word-more k a hk hx e =
       let x : ℕ = getD v k 0 in
-      let m : tab (64 * (k + 1)) f ≡ tab (64 * k) f ++ wordBits 64 a = ap (λ (n : ℕ). tab n f) (let e : 64 * (k + 1) ≡ 64 * k + 64 = omega arith in e) ∙ tab-append (64 * k) 64 f ∙ ap (λ (t : List Bool). tab (64 * k) f ++ t) (sym e) in
+      let n : 64 * (k + 1) ≡ 64 * k + 64 = omega arith in
+      let m : tab (64 * (k + 1)) f ≡ tab (64 * k) f ++ wordBits 64 a = rw n (tab-append (64 * k) 64 f ∙ ap (λ (t : List Bool). tab (64 * k) f ++ t) (sym e)) in
       let u : held (take (k + 1) v) ≡ held (take k v) ++ wordBits 64 x = rw (add-one k, take-suc v k 0 hk) (held-append (take k v) (x ∷ []) ∙ ap (λ (t : List Bool). held (take k v) ++ t) (append-nil (wordBits 64 x))) in
       let l : length (tab (64 * k) f) ≡ length (held (take k v)) = length-tab (64 * k) f ∙ omega (arith, held-length (take k v), length-take {A = ℕ} k v) in
       ap (bitXor (bit (oddFirst f v k))) (parity-bits 64 a x hx) ∙ xor-bits (oddFirst f v k) (odd (wordBits 64 a) (wordBits 64 x))
@@ -97,22 +97,6 @@ unfolding mask
 all-words s i v h = ap₂ (λ (n : ℕ) (l : List ℕ). odd (tab n (names s i)) (held l)) whole-mask (take-all maskWords v (omega (arith, h)))
 
 -- ---- a word of the mask, byte by byte
-
-join-bits : (n m a b : ℕ) → a < 2 ^ n → wordBits (n + m) (a + b * 2 ^ n) ≡ wordBits n a ++ wordBits m b
-unfolding wordBits
-join-bits zero m a b h = rw (zero-add m) (ap (wordBits m) (omega arith))
-join-bits (suc n) m a b h =
-    let t : ℕ = b * 2 ^ n in
-    let e : b * 2 ^ suc n ≡ 2 * t = ap (λ (p : ℕ). b * p) (pow-suc 2 n) ∙ sym (mul-assoc b (2 ^ n) 2) ∙ omega arith in
-    let o : (a + b * 2 ^ suc n) % 2 ≡ a % 2 = omega (arith, e) in
-    let q : (a + b * 2 ^ suc n) / 2 ≡ a / 2 + t = omega (arith, e) in
-    ap (λ (k : ℕ). wordBits k (a + b * 2 ^ suc n)) (suc-add n m)
-    ∙ ap₂ {C = List Bool} (λ (c d : ℕ). eqb c 1 ∷ wordBits (n + m) d) o q ∙ ap {B = List Bool} (λ l. eqb (a % 2) 1 ∷ l) (join-bits n m (a / 2) b (omega (arith, pow-suc 2 n)))
-
-join-lt : (n m a b : ℕ) → a < 2 ^ n → b < 2 ^ m → a + b * 2 ^ n < 2 ^ (n + m)
-join-lt n m a b ha hb =
-    let l : (b + 1) * 2 ^ n ≤ 2 ^ m * 2 ^ n = mul-le-mul-right (2 ^ n) (omega arith) in
-    rw (pow-add 2 n m) (omega (arith, l))
 
 -- the c bytes of a word x are those of record i's mask from byte 8 k on
 pub record Bytes (s : List ℕ) (i k c x : ℕ) : Type 0 where
@@ -197,9 +181,6 @@ odd-ext (a ∷ m) (x ∷ u) (y ∷ v) h = ap₂ (λ (b t : Bool). (a && b) ⊕ t
 pub odd-held : (m : List Bool) (v : List ℕ) (c : List Bool) → Holds v c → odd m (held v) ≡ odd m c
 odd-held m v c h = odd-ext m (held v) c h
 
-bit-zero : (k : ℕ) → bitAt 0 k ≡ 0
-bit-zero k = ap (λ (x : ℕ). x % 2) (zero-div (2 ^ k))
-
 zero-at : (k i : ℕ) → _≡_ {A = ℕ} (getD (replicate k 0) i 0) 0
 zero-at zero i = refl
 zero-at (suc k) zero = refl
@@ -209,7 +190,7 @@ pub holds-none : (k : ℕ) → Holds (replicate k 0) []
 holds-none k j = go (replicate k 0) (zero-at k) (decLt j (64 * length (replicate {A = ℕ} k 0)))
   where
     go : (v : List ℕ) → ((i : ℕ) → getD v i 0 ≡ 0) → Dec (j < 64 * length v) → getD (held v) j false ≡ false
-    go v z (yes h) = held-at v j h ∙ ap (λ (x : ℕ). eqb (bitAt x (j % 64)) 1) (z (j / 64)) ∙ ap (λ (x : ℕ). eqb x 1) (bit-zero (j % 64))
+    go v z (yes h) = held-at v j h ∙ ap (λ (x : ℕ). hasBit x (j % 64)) (z (j / 64)) ∙ zero-bit (j % 64)
     go v z (no h) = past (held v) j (omega (arith, held-length v))
 
 -- ---- one value more
@@ -219,19 +200,14 @@ small-shift zero k hb hk = rw (zero-mul (2 ^ k)) (omega arith)
 small-shift (suc zero) k hb hk = rw (one-mul (2 ^ k)) (pow-lt hk)
 small-shift (suc (suc b)) k hb hk = absurd (omega arith)
 
-one-bit : (b : Bool) (t k : ℕ) → bitAt (bit b * 2 ^ t) k ≡ pick (eqb k t) (bit b) 0
-one-bit b zero zero = ap (λ (x : ℕ). x % 2) (div-one (bit b * 1)) ∙ small b
+-- a word with bit t flipped where b is 1
+put-bit : (a t k : ℕ) (b : Bool) → hasBit (bitXor a (bit b * 2 ^ t)) k ≡ hasBit a k ⊕ (eqb k t && b)
+put-bit a t k b = hasBit-xor a (bit b * 2 ^ t) k ∙ ap (λ (c : Bool). hasBit a k ⊕ c) (own b (ℕ-discrete k t))
   where
-    small : (b : Bool) → bit b * 1 % 2 ≡ bit b
-    small true = refl
-    small false = refl
-one-bit b zero (suc k) = bit-suc (bit b * 1) k ∙ ap (λ (x : ℕ). bitAt x k) (none b) ∙ bit-zero k ∙ rw (ne-eqb (suc k) 0 (λ e. omega arith))
-  where
-    none : (b : Bool) → bit b * 1 / 2 ≡ 0
-    none true = refl
-    none false = refl
-one-bit b (suc t) zero = ap (λ (x : ℕ). x % 2) (div-one (bit b * 2 ^ suc t)) ∙ shifted-even (bit b) t ∙ rw (ne-eqb 0 (suc t) (λ e. omega arith))
-one-bit b (suc t) (suc k) = bit-suc (bit b * 2 ^ suc t) k ∙ ap (λ (x : ℕ). bitAt x k) (shifted-half (bit b) t) ∙ one-bit b t k ∙ ap (λ (c : Bool). pick c (bit b) 0) (sym (eqb·suc-suc k t))
+    own : (b : Bool) → Dec (k ≡ t) → hasBit (bit b * 2 ^ t) k ≡ eqb k t && b
+    own false d = rw (zero-mul (2 ^ t), and-false (eqb k t) false refl) (zero-bit k)
+    own true (yes e) = rw (one-mul (2 ^ t), e, eq-eqb t t refl) (bit-same t)
+    own true (no n) = rw (one-mul (2 ^ t), ne-eqb k t n) (bit-other t k n)
 
 snoc-other : (c : List Bool) (b : Bool) (j : ℕ) → (j ≡ length c → ⊥) → getD (c ++ (b ∷ [])) j false ≡ getD c j false
 snoc-other [] b zero h = absurd (h refl)
@@ -240,57 +216,34 @@ snoc-other (a ∷ c) b zero h = refl
 snoc-other (a ∷ c) b (suc j) h = snoc-other c b j (λ e. h (ap suc e))
 
 module _ (v : List ℕ) (c : List Bool) (b : Bool) (i : ℕ) (e : i ≡ length c) (h : i < 64 * length v) (f : Holds v c) where
-  abbrev x : ℕ
-  x = bitXor (getD v (i / 64) 0) (bit b * 2 ^ (i % 64))
+  abbrev new : List ℕ
+  new = set v (i / 64) (bitXor (getD v (i / 64) 0) (bit b * 2 ^ (i % 64)))
 
-  -- the word of i, changed; a bit of it that is not i's is as it was, and i's, which was 0, is b
-  other-bit : (j : ℕ) → j / 64 ≡ i / 64 → (j % 64 ≡ i % 64 → ⊥) → eqb (bitAt x (j % 64)) 1 ≡ eqb (bitAt (getD v (i / 64) 0) (j % 64)) 1
-  other-bit j d m =
-      let y : ℕ = bitAt (getD v (i / 64) 0) (j % 64) in
-      let z : bitAt (bit b * 2 ^ (i % 64)) (j % 64) ≡ 0 = one-bit b (i % 64) (j % 64) ∙ ap (λ (t : Bool). pick t (bit b) 0) (ne-eqb (j % 64) (i % 64) m) in
-      let s : bitAt x (j % 64) ≡ y = bit-xor (getD v (i / 64) 0) (bit b * 2 ^ (i % 64)) (j % 64) ∙ omega (arith, z, mod-lt (getD v (i / 64) 0 / 2 ^ (j % 64)) {m = 2} (omega arith)) in
-      ap (λ (t : ℕ). eqb t 1) s
+  new-length : length new ≡ length v
+  new-length = length-set v (i / 64) _
 
-  own-bit : eqb (bitAt x (i % 64)) 1 ≡ b
-  own-bit =
-      let y : ℕ = bitAt (getD v (i / 64) 0) (i % 64) in
-      let off : eqb y 1 ≡ false = sym (held-at v i h) ∙ f i ∙ past c i (omega (arith, e)) in
-      let y0 : y ≡ 0 = let n = eqb-false y 1 off in low y (mod-lt (getD v (i / 64) 0 / 2 ^ (i % 64)) {m = 2} (omega arith)) n in
-      let z : bitAt (bit b * 2 ^ (i % 64)) (i % 64) ≡ bit b = one-bit b (i % 64) (i % 64) ∙ ap (λ (t : Bool). pick t (bit b) 0) (eq-eqb (i % 64) (i % 64) refl) in
-      ap (λ (t : ℕ). eqb t 1) (bit-xor (getD v (i / 64) 0) (bit b * 2 ^ (i % 64)) (i % 64) ∙ ap₂ (λ (p q : ℕ). (p + q) % 2) y0 z) ∙ just b
+  -- bit j of the word of i
+  here : (j : ℕ) → j / 64 ≡ i / 64 → hasBit (getD new (j / 64) 0) (j % 64) ≡ hasBit (getD v (j / 64) 0) (j % 64) ⊕ (eqb (j % 64) (i % 64) && b)
+  here j d = rw (d, getD-set-same v (i / 64) (bitXor (getD v (i / 64) 0) (bit b * 2 ^ (i % 64))) 0 (omega arith)) (put-bit (getD v (i / 64) 0) (i % 64) (j % 64) b)
+
+  -- i's, which was 0, is b
+  own : hasBit (getD new (i / 64) 0) (i % 64) ≡ b
+  own =
+      let off : hasBit (getD v (i / 64) 0) (i % 64) ≡ false = sym (held-at v i h) ∙ f i ∙ past c i (omega (arith, e)) in
+      here i refl ∙ ap₂ (λ (p q : Bool). p ⊕ (q && b)) off (eq-eqb (i % 64) (i % 64) refl)
+
+  -- any other is as it was
+  other : (j : ℕ) → (j ≡ i → ⊥) → hasBit (getD new (j / 64) 0) (j % 64) ≡ hasBit (getD v (j / 64) 0) (j % 64)
+  other j n = go (ℕ-discrete (j / 64) (i / 64))
     where
-      low : (y : ℕ) → y < 2 → (y ≡ 1 → ⊥) → y ≡ 0
-      low zero l n = refl
-      low (suc zero) l n = absurd (n refl)
-      low (suc (suc y)) l n = absurd (omega arith)
+      go : Dec (j / 64 ≡ i / 64) → hasBit (getD new (j / 64) 0) (j % 64) ≡ hasBit (getD v (j / 64) 0) (j % 64)
+      go (yes d) = here j d ∙ ap (λ (q : Bool). hasBit (getD v (j / 64) 0) (j % 64) ⊕ (q && b)) (ne-eqb (j % 64) (i % 64) (λ m. n (omega arith))) ∙ ⊕-false _
+      go (no d) = ap (λ (x : ℕ). hasBit x (j % 64)) (getD-set-other v (i / 64) (j / 64) _ 0 d)
 
-      just : (b : Bool) → eqb ((0 + bit b) % 2) 1 ≡ b
-      just true = refl
-      just false = refl
-
-  pub holds-more : Holds (set v (i / 64) x) (c ++ (b ∷ []))
-  holds-more j = go (decLt j (64 * length v))
+  pub holds-more : Holds new (c ++ (b ∷ []))
+  holds-more j = go (decLt j (64 * length v)) (ℕ-discrete j i)
     where
-      lv : length (set v (i / 64) x) ≡ length v
-      lv = length-set v (i / 64) x
-
-      -- place j is another, and its bit is as it was
-      kept : eqb (bitAt (getD v (j / 64) 0) (j % 64)) 1 ≡ eqb (bitAt (getD (set v (i / 64) x) (j / 64) 0) (j % 64)) 1 → j < 64 * length v → (j ≡ i → ⊥) → getD (held (set v (i / 64) x)) j false ≡ getD (c ++ (b ∷ [])) j false
-      kept q l n = held-at (set v (i / 64) x) j (rw lv l) ∙ sym q ∙ sym (held-at v j l) ∙ f j ∙ sym (snoc-other c b j (λ p. n (p ∙ sym e)))
-
-      here : (j / 64 ≡ i / 64) → getD (set v (i / 64) x) (j / 64) 0 ≡ x
-      here d = ap (λ (t : ℕ). getD (set v (i / 64) x) t 0) d ∙ getD-set-same v (i / 64) x 0 (omega arith)
-
-      inside : j < 64 * length v → Dec (j / 64 ≡ i / 64) → Dec (j % 64 ≡ i % 64) → getD (held (set v (i / 64) x)) j false ≡ getD (c ++ (b ∷ [])) j false
-      inside l (no d) m = kept (ap (λ (t : ℕ). eqb (bitAt t (j % 64)) 1) (sym (getD-set-other v (i / 64) (j / 64) x 0 d))) l (λ p. d (ap (λ (t : ℕ). t / 64) p))
-      inside l (yes d) (no m) =
-          kept (ap (λ (t : ℕ). eqb (bitAt (getD v t 0) (j % 64)) 1) d ∙ sym (other-bit j d m) ∙ ap (λ (t : ℕ). eqb (bitAt t (j % 64)) 1) (sym (here d))) l (λ p. m (ap (λ (t : ℕ). t % 64) p))
-      inside l (yes d) (yes m) =
-          let p : j ≡ i = omega arith in
-          held-at (set v (i / 64) x) j (rw lv l) ∙ ap (λ (t : ℕ). eqb (bitAt t (j % 64)) 1) (here d) ∙ ap (λ (t : ℕ). eqb (bitAt x t) 1) m ∙ own-bit
-          ∙ sym (ap (λ (t : ℕ). getD (c ++ (b ∷ [])) t false) (p ∙ e) ∙ getD-append-seam c b [] false)
-
-      go : Dec (j < 64 * length v) → getD (held (set v (i / 64) x)) j false ≡ getD (c ++ (b ∷ [])) j false
-      go (yes l) = inside l (ℕ-discrete (j / 64) (i / 64)) (ℕ-discrete (j % 64) (i % 64))
-      go (no l) =
-          past (held (set v (i / 64) x)) j (omega (arith, held-length (set v (i / 64) x), lv)) ∙ sym (past (c ++ (b ∷ [])) j (omega (arith, length-append c (b ∷ []), e)))
+      go : Dec (j < 64 * length v) → Dec (j ≡ i) → getD (held new) j false ≡ getD (c ++ (b ∷ [])) j false
+      go (yes l) (yes p) = held-at new j (rw new-length l) ∙ rw p (own ∙ sym (rw e (getD-append-seam c b [] false)))
+      go (yes l) (no n) = held-at new j (rw new-length l) ∙ other j n ∙ sym (held-at v j l) ∙ f j ∙ sym (snoc-other c b j (λ p. n (p ∙ sym e)))
+      go (no l) d = past (held new) j (omega (arith, held-length new, new-length)) ∙ sym (past (c ++ (b ∷ [])) j (omega (arith, length-append c (b ∷ []), e)))

@@ -5,46 +5,25 @@
 --     lead-within                         a row with no coefficient from g on
 use mathlib.Core.Path.{_≡_, refl, sym, ap, ap₂, _∙_}
 use mathlib.Core.Logic.{_⊎_, inl, inr, ⊎-elim}
-use Prim.Native.Nat.{ℕ, zero, suc, _+_, _*_, _/_, _%_, _-_, _^_, _≤_, _<_}
+use Prim.Native.Nat.{ℕ, zero, suc, _+_, _*_, _/_, _%_, _^_, _≤_, _<_}
 use native.Mathlib.Omega.{arith}
 use native.Mathlib.Nat.{zero-add, add-zero}
 use mathlib.Core.Bool.{Bool, true, false, _&&_}
 use mathlib.Core.List.{List, [], _∷_}
 use lib.ListN.{getD, length-replicate}
 use lib.Seq.{getD-set-same, getD-set-other}
-use lib.Pow.{pow-pos, pow-add, shl-shr}
-use lib.Dec.{eqb}
 use Rattle.bits.specs.Vectors.{_⊕_}
 use Rattle.bits.specs.Words.{hasBit}
 use Rattle.bits.specs.Rows.{Row}
 use Rattle.bits.proofs.Tests.{eq-or-ne, le-or-lt, not-both}
 use Rattle.bits.proofs.Xor.{⊕-false}
-use Rattle.bits.proofs.WordBits.{bit-top, bit-above, zero-bit}
+use Rattle.bits.proofs.WordBits.{zero-bit, bit-same, bit-other}
 use Rattle.gf2.specs.Rows.{hasAt, has}
 use Rattle.gf2.specs.Solve.{lead}
 use Rattle.gf2.specs.System.{dot}
 use Rattle.gf2.proofs.Leads.{lead-holds, lead-le}
 use Rattle.gf2.proofs.Fill.{dot-none}
 use Rattle.ruling.specs.Values.{noughtRow, unitRow, unknownRow}
-
--- ---- the bits of a power of 2
-
-bit-same : (j : ℕ) → hasBit (2 ^ j) j ≡ true
-bit-same j = bit-top (2 ^ j) j (omega arith) (omega (arith, pow-pos j))
-
-bit-below : (j i : ℕ) → i < j → hasBit (2 ^ j) i ≡ false
-bit-below j i h =
-    let s : suc (j - suc i) + i ≡ j = omega arith in
-    let q : 2 ^ j / 2 ^ i ≡ 2 ^ suc (j - suc i) = ap (λ (x : ℕ). 2 ^ x / 2 ^ i) (sym s) ∙ ap (λ (x : ℕ). x / 2 ^ i) (pow-add 2 (suc (j - suc i)) i) ∙ shl-shr (2 ^ suc (j - suc i)) i in
-    let z : 2 ^ suc (j - suc i) % 2 ≡ 0 = omega arith in
-    ap (λ (x : ℕ). eqb (x % 2) 1) q ∙ ap (λ (x : ℕ). eqb x 1) z
-
-bit-other : (j i : ℕ) → (i ≡ j → ⊥) → hasBit (2 ^ j) i ≡ false
-bit-other j i n =
-    ⊎-elim (λ (l : i ≤ j). bit-below j i (differ l)) (λ (l : j < i). bit-above (2 ^ j) (suc j) i (omega (arith, pow-pos j)) l) (le-or-lt i j)
-  where
-    differ : i ≤ j → i < j
-    differ l = ⊎-elim (λ (q : j ≤ i). absurd (n (omega arith))) (λ (q : i < j). q) (le-or-lt j i)
 
 -- ---- the bits of the rows
 

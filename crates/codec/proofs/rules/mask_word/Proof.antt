@@ -1,8 +1,6 @@
-use mathlib.Core.Path.{_≡_, refl, sym, ap, _∙_}
-use Prim.Native.Nat.{ℕ, _+_, _*_, _^_, _<_, _≤_, _-_}
-use native.Mathlib.Nat.{lt-of-lt-of-le}
+use mathlib.Core.Path.{_∙_}
+use Prim.Native.Nat.{_-_}
 use native.Mathlib.Omega.{arith}
-use lib.Pow.{pow-mono, shl-exact}
 use borrow.Author.Needs.{needs}
 use Rattle.meaning.specs.Limits.{recordBytes, maskBytes}
 use Rattle.codec.proofs.Packing.{Bytes, no-bytes, byte-more, bytes-fit, eight-bytes}

@@ -1,11 +1,11 @@
-use mathlib.Core.Path.{_≡_, refl, sym, ap, ap₂, _∙_}
-use Prim.Native.Nat.{_+_, _<_, _≤_, _-_}
+use mathlib.Core.Path.{_≡_, refl, ap, ap₂, _∙_}
+use Prim.Native.Nat.{_≤_, _-_}
 use native.Mathlib.Omega.{arith}
 use lib.Bits.{bitXor}
 use borrow.Author.Needs.{needs}
 use Rattle.bits.specs.Vectors.{bit}
-use Rattle.meaning.specs.Limits.{recordBytes, maskBytes}
-use Rattle.meaning.specs.Sheet.{names, mask}
+use Rattle.meaning.specs.Limits.{maskBytes}
+use Rattle.meaning.specs.Sheet.{names}
 use Rattle.codec.specs.Packed.{maskWords, maskWord}
 use Rattle.codec.proofs.Packing.{oddFirst, word-more, all-words}
 use Rattle.codec.proofs.rules.odd_named.Statement.{statement}
@@ -62,8 +62,7 @@ returns c =
     let start = c .before .before .before .before in
     let s = start .args .sheet .now in
     let v = start .args .values .now in
-    let k = c .before .loop .k in
-    let e : k ≡ maskWords = omega arith in
+    let e : c .before .loop .k ≡ maskWords = omega arith in
     c .before .loop .inv .1 ∙ ap bit (ap (oddFirst (names s (start .args .i)) v) e ∙ all-words s (start .args .i) v (start .pre .1))
 
 pub odd-named-spec : {M : Type 1} → statement M
