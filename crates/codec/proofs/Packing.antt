@@ -12,7 +12,7 @@ use native.Mathlib.Decide.{decLt, ℕ-discrete}
 use native.Mathlib.Numerals.{add-one}
 use mathlib.Core.Bool.{Bool, true, false, _&&_}
 use mathlib.Core.List.{List, [], _∷_, _++_, append-assoc, append-nil}
-use lib.ListN.{length, take, getD, set, length-take, length-append, length-set, replicate}
+use lib.ListN.{length, take, getD, set, length-take, length-append, length-set, replicate, length-replicate, getD-replicate, List·getD-eq-default}
 use lib.Seq.{take-suc, take-all, getD-set-same, getD-set-other, getD-append-seam}
 use lib.Dec.{eqb}
 use lib.Bits.{bitAnd, bitXor}
@@ -158,9 +158,7 @@ held-at : (v : List ℕ) (j : ℕ) → j < 64 * length v → getD (held v) j fal
 held-at v j h = ap (λ (l : List Bool). getD l j false) (words-bits v) ∙ tab-at (64 * length v) _ j false h
 
 past : (l : List Bool) (j : ℕ) → length l ≤ j → getD l j false ≡ false
-past [] j h = refl
-past (a ∷ l) zero h = absurd (omega arith)
-past (a ∷ l) (suc j) h = past l j (omega arith)
+past l j h = List·getD-eq-default l false {n = j} h
 
 odd-nil : (m : List Bool) → odd m [] ≡ false
 odd-nil [] = refl
@@ -181,17 +179,15 @@ odd-ext (a ∷ m) (x ∷ u) (y ∷ v) h = ap₂ (λ (b t : Bool). (a && b) ⊕ t
 pub odd-held : (m : List Bool) (v : List ℕ) (c : List Bool) → Holds v c → odd m (held v) ≡ odd m c
 odd-held m v c h = odd-ext m (held v) c h
 
-zero-at : (k i : ℕ) → _≡_ {A = ℕ} (getD (replicate k 0) i 0) 0
-zero-at zero i = refl
-zero-at (suc k) zero = refl
-zero-at (suc k) (suc i) = zero-at k i
-
 pub holds-none : (k : ℕ) → Holds (replicate k 0) []
-holds-none k j = go (replicate k 0) (zero-at k) (decLt j (64 * length (replicate {A = ℕ} k 0)))
+holds-none k j = go (decLt j (64 * k))
   where
-    go : (v : List ℕ) → ((i : ℕ) → getD v i 0 ≡ 0) → Dec (j < 64 * length v) → getD (held v) j false ≡ false
-    go v z (yes h) = held-at v j h ∙ ap (λ (x : ℕ). hasBit x (j % 64)) (z (j / 64)) ∙ zero-bit (j % 64)
-    go v z (no h) = past (held v) j (omega (arith, held-length v))
+    lv : length (replicate {A = ℕ} k 0) ≡ k
+    lv = length-replicate k 0
+
+    go : Dec (j < 64 * k) → getD (held (replicate k 0)) j false ≡ false
+    go (yes h) = held-at (replicate k 0) j (omega (arith, lv)) ∙ ap (λ (x : ℕ). hasBit x (j % 64)) (getD-replicate {A = ℕ} k (j / 64) 0 0 (omega arith)) ∙ zero-bit (j % 64)
+    go (no h) = past (held (replicate k 0)) j (omega (arith, held-length (replicate k 0), lv))
 
 -- ---- one value more
 

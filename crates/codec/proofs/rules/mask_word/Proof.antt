@@ -1,5 +1,5 @@
 use mathlib.Core.Path.{_∙_}
-use Prim.Native.Nat.{_-_}
+use Prim.Native.Nat.{_-_, _<_, _≤_}
 use native.Mathlib.Omega.{arith}
 use borrow.Author.Needs.{needs}
 use Rattle.meaning.specs.Limits.{recordBytes, maskBytes}
@@ -44,7 +44,8 @@ shl-x c = search needs
 loop-again : tie.Need-loop-again Inv-loop μ-loop
 loop-again c =
     let turn = c .before .before in
-    byte-more _ _ _ _ _ _ (turn .loop-test .taken) (c .wide .ensures .0 ∙ c .before .byte-at .ensures) (c .wide .ensures .1) (turn .before .loop .inv)
+    let few : turn .before .loop .c < 8 = omega arith in
+    byte-more _ _ _ _ _ _ few (c .wide .ensures .0 ∙ c .before .byte-at .ensures) (c .wide .ensures .1) (turn .before .loop .inv)
 
 add-x : tie.Need-add-x Inv-loop μ-loop
 add-x c = record { fits = bytes-fit _ _ _ _ _ (loop-again c) }
@@ -56,7 +57,9 @@ loop-less : tie.Need-loop-less Inv-loop μ-loop
 loop-less c = omega arith
 
 returns : tie.Need-returns Inv-loop μ-loop
-returns c = eight-bytes _ _ _ _ _ (c .loop-test .left) (c .before .loop .inv)
+returns c =
+    let all : 8 ≤ c .before .loop .c = omega arith in
+    eight-bytes _ _ _ _ _ all (c .before .loop .inv)
 
 pub mask-word-spec : {M : Type 1} → statement M
 mask-word-spec =

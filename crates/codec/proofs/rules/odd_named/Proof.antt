@@ -4,7 +4,7 @@ use native.Mathlib.Omega.{arith}
 use lib.Bits.{bitXor}
 use borrow.Author.Needs.{needs}
 use Rattle.bits.specs.Vectors.{bit}
-use Rattle.meaning.specs.Limits.{maskBytes}
+use Rattle.meaning.specs.Limits.{recordBytes, maskBytes}
 use Rattle.meaning.specs.Sheet.{names}
 use Rattle.codec.specs.Packed.{maskWords, maskWord}
 use Rattle.codec.proofs.Packing.{oddFirst, word-more, all-words}
@@ -21,8 +21,8 @@ loop-holds : tie.Need-loop-holds Inv-loop μ-loop
 loop-holds c = (omega arith, refl)
 
 mask-word-requires : tie.Need-mask-word-requires Inv-loop μ-loop
-unfolding maskBytes
-mask-word-requires c κs = (c .loop-test .taken, c .before .before .before .before .pre .0)
+unfolding recordBytes maskBytes
+mask-word-requires c κs = omega arith
 
 mul-parity : tie.Need-mul-parity Inv-loop μ-loop
 unfolding maskBytes
