@@ -20,6 +20,8 @@ const USAGE: &str = "usage:
   second vectors DIR            write DIR/stdin and DIR/stdout, the requests and their answers
   second compare DIR            make both again and compare them with the files byte by byte
   second answer                 answer the requests on standard input
+  second dense OP COUNT         write so many requests of the largest sheets with dense masks: OP 0
+                                checks the sheet, OP 1 encodes
   second stream DIR             answer the words on standard input, by DIR/sheet.bin and DIR/choice.bin
   second show                   print the answer records on standard input for a person
   second words DIR COUNT SEED   write so many damaged words of DIR/sheet.bin and DIR/choice.bin
@@ -136,6 +138,16 @@ fn answer() -> io::Result<()> {
     io::stdout().write_all(&answers)
 }
 
+/// Writes so many requests to measure by.
+fn dense(op: u16, count: &str) -> io::Result<()> {
+    let count = count.parse().map_err(io::Error::other)?;
+    let mut bytes = Vec::new();
+    for request in requests::dense(op, count) {
+        request.write(&mut bytes);
+    }
+    io::stdout().write_all(&bytes)
+}
+
 /// All of standard input; a failed read counts as its end.
 fn input() -> Vec<u8> {
     let mut input = Vec::new();
@@ -216,6 +228,8 @@ fn run(arguments: &[&str]) -> io::Result<ExitCode> {
         ["vectors", dir] => print!("{}", write_vectors(Path::new(dir))?),
         ["compare", dir] => return Ok(outcome(compare(Path::new(dir))?)),
         ["answer"] => answer()?,
+        ["dense", "0", count] => dense(0, count)?,
+        ["dense", "1", count] => dense(1, count)?,
         ["stream", dir] => stream(Path::new(dir))?,
         ["show"] => io::stdout().write_all(show(&input()).as_bytes())?,
         ["words", dir, count, seed] => words(Path::new(dir), count, seed)?,

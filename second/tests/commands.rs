@@ -1,7 +1,9 @@
-// The commands as they are run: stream, show, words, and the comparisons.
+// The commands as they are run: stream, show, words, dense, and the comparisons.
 
 mod common;
 use common::{folder, sheet_e, symbols};
+use second::protocol::Request;
+use second::sheet::Sheet;
 use std::io::Write;
 use std::path::{Path, PathBuf};
 use std::process::{Command, Output, Stdio};
@@ -138,6 +140,30 @@ fn words_are_the_same_again() {
     let refused = run(&["words", dir, "10", "7"], &[]);
     assert_eq!(refused.status.code(), Some(1));
     assert_eq!(refused.stderr, b"second: refused 19\n");
+}
+
+#[test]
+fn dense_requests_name_all_bits_before() {
+    for op in [0, 1] {
+        let bytes = written(&["dense", &op.to_string(), "5"], &[]);
+        let mut left = &bytes[..];
+        let requests: Vec<Request> = std::iter::from_fn(|| Request::read(&mut left)).collect();
+        assert_eq!((requests.len(), left.len()), (5, 0));
+        for request in &requests {
+            assert_eq!((request.op, request.n, request.r), (op, 7, 0));
+            let sheet = Sheet::read(7, &request.a, 0).unwrap();
+            let frozen = sheet.records.iter().enumerate().filter(|(_, r)| r.frozen);
+            for (i, record) in frozen {
+                assert_eq!(record.named, (0..i).collect::<Vec<_>>());
+            }
+        }
+        let answers = written(&["answer"], &bytes);
+        assert_eq!(answers.len(), 5 * (10 + 128));
+        assert!(answers.chunks(138).all(|answer| answer[..10] == [0; 10]));
+        assert_eq!(answers.contains(&165), op == 0);
+    }
+    assert!(!run(&["dense", "1", "many"], &[]).status.success());
+    assert_eq!(run(&["dense", "2", "5"], &[]).status.code(), Some(2));
 }
 
 #[test]

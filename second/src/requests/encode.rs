@@ -88,6 +88,17 @@ fn dense_masks() -> Vec<Request> {
     list
 }
 
+/// So many payloads of sheets with the largest N whose frozen bits name all bits before them.
+pub fn dense(count: usize) -> Vec<Request> {
+    let mut rng = Rng::new(117);
+    (0..count)
+        .map(|_| {
+            let code = Code::dense(&mut rng, LARGEST_EXPONENT, 0);
+            good(&mut rng, &code)
+        })
+        .collect()
+}
+
 /// Payloads with a single 1, at every place of a short one and at a few of a long one.
 fn single_bits() -> Vec<Request> {
     let mut rng = Rng::new(113);

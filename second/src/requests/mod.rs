@@ -30,3 +30,10 @@ pub fn of(op: u16) -> Vec<Request> {
         op => panic!("no op {op}"),
     }
 }
+
+/// So many requests to measure by: sheets with the largest N whose frozen bits name all bits before
+/// them, checked (op 0) or encoded with (op 1).
+pub fn dense(op: u16, count: usize) -> Vec<Request> {
+    let requests = encode::dense(count).into_iter();
+    requests.map(|request| Request { op, ..request }).collect()
+}
