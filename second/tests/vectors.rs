@@ -174,7 +174,7 @@ fn every_list_has_its_size() {
         counts.push(list.len());
     }
     assert!((3_000..=3_600).contains(&counts[0]), "{counts:?}");
-    assert!((5_800..=6_400).contains(&(counts[1] + counts[3])));
+    assert!((5_800..=6_700).contains(&(counts[1] + counts[3])));
     assert!((20_000..=22_000).contains(&counts[2]), "{counts:?}");
     assert!((400..=600).contains(&counts[4]), "{counts:?}");
     assert!(sizes[0] + sizes[1] + sizes[3] < 7_500_000, "{sizes:?}");
@@ -509,6 +509,24 @@ fn payloads_reach_what_they_must() {
         for r in [6, 11].into_iter().filter(|&r| r <= 1 << n) {
             assert!(empty.contains(&(n, r, 13)), "n {n}, r {r}");
         }
+    }
+}
+
+#[test]
+fn every_bit_of_a_mask_decides() {
+    let mut seen = BTreeSet::new();
+    for (request, answer, out) in answered(1) {
+        if answer.code == 0 && request.n == 7 {
+            let sheet = Sheet::read(7, &request.a, request.r.into()).unwrap();
+            let u = u_of(&out[..128]);
+            let ones: Vec<usize> = (0..127).filter(|&i| u[i]).collect();
+            seen.insert((sheet.records[127].named.clone(), ones, u[127]));
+        }
+    }
+    for j in 0..127 {
+        let others = (0..127).filter(|&i| i != j).collect();
+        assert!(seen.contains(&(vec![j], vec![j], true)), "{j} named");
+        assert!(seen.contains(&(others, vec![j], false)), "{j} not named");
     }
 }
 

@@ -98,7 +98,7 @@ all-words s i v h = ap₂ (λ (n : ℕ) (l : List ℕ). odd (tab n (names s i)) 
 
 -- ---- a word of the mask, byte by byte
 
--- the c bytes of a word x are those of record i's mask from byte 8 k on
+-- x holds c bytes of record i's mask, from byte 8 k on
 pub record Bytes (s : List ℕ) (i k c x : ℕ) : Type 0 where
   pub few : c ≤ 8
   pub small : x < 2 ^ (8 * c)

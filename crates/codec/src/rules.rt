@@ -34,7 +34,7 @@ fn wide(x: u8) -> u64
     x as u64
 }
 
-// Word k of record i's mask.
+// Word k of record i's mask: eight of its bytes, the first lowest.
 fn mask_word(sheet: &[u8], i: usize, k: usize) -> u64
     requires { ⌜ (k < maskWords) × ((i + 1) * recordBytes ≤ length (now sheet)) ⌝ }
     ensures { λ r. ⌜ wordBits 64 r ≡ maskWord (now (sheet .entry)) i k ⌝ }

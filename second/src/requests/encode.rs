@@ -1,14 +1,16 @@
-// Op 1, encode: the refusals, and payloads for every N, check length and kind of sheet; the empty
-// payload where no position is free or the check leaves none; payloads that begin with zeros.
+// Op 1, encode: the refusals, and payloads for every N, check length and kind of sheet; masks in
+// which one bit decides; the empty payload where no position is free or the check leaves none;
+// payloads that begin with zeros.
 
 use super::faults;
 use super::parts::{
     checked_codes, choices, every_none_free, first_middle_last, room, symbols, zero_payloads, Code,
 };
 use crate::limits::LARGEST_EXPONENT;
-use crate::make::{bits, every_word, STYLES};
+use crate::make::{bits, bytes, every_word, STYLES};
 use crate::protocol::Request;
 use crate::rng::Rng;
+use crate::sheet::Record;
 
 pub fn all() -> Vec<Request> {
     [
@@ -16,6 +18,7 @@ pub fn all() -> Vec<Request> {
         faults::all(100, 1, good),
         every_style(),
         dense_masks(),
+        single_names(),
         single_bits(),
         small_codes(),
         no_payload(),
@@ -88,9 +91,36 @@ fn dense_masks() -> Vec<Request> {
     list
 }
 
+/// Only the last bit of the largest N is frozen, and names one bit or all before it but one, which
+/// is the payload's only 1: every bit of a mask decides, both ways.
+fn single_names() -> Vec<Request> {
+    let mut rng = Rng::new(117);
+    let mut list = Vec::new();
+    let last = (1 << LARGEST_EXPONENT) - 1;
+    for j in 0..last {
+        for named in [vec![j], (0..last).filter(|&i| i != j).collect()] {
+            let mut records = vec![Record::default(); last];
+            records.push(Record {
+                frozen: true,
+                constant: false,
+                named,
+            });
+            let code = Code {
+                n: LARGEST_EXPONENT,
+                r: 0,
+                sheet: bytes(&records),
+            };
+            let mut payload = vec![0; last];
+            payload[j] = 1;
+            list.push(encode_in_room(&mut rng, &code, payload));
+        }
+    }
+    list
+}
+
 /// So many payloads of sheets with the largest N whose frozen bits name all bits before them.
 pub fn dense(count: usize) -> Vec<Request> {
-    let mut rng = Rng::new(117);
+    let mut rng = Rng::new(118);
     (0..count)
         .map(|_| {
             let code = Code::dense(&mut rng, LARGEST_EXPONENT, 0);
