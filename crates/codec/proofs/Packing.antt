@@ -12,11 +12,11 @@ use native.Mathlib.Decide.{decLt, ℕ-discrete}
 use native.Mathlib.Numerals.{add-one}
 use mathlib.Core.Bool.{Bool, true, false, _&&_}
 use mathlib.Core.List.{List, [], _∷_, _++_, append-assoc, append-nil}
-use lib.ListN.{length, take, getD, set, length-take, length-append, length-set, replicate, length-replicate, getD-replicate, List·getD-eq-default}
+use lib.ListN.{length, take, getD, length-take, length-append, length-set, replicate, length-replicate, getD-replicate, List·getD-eq-default}
 use lib.Seq.{take-suc, take-all, getD-set-same, getD-set-other, getD-append-seam}
 use lib.Dec.{eqb}
 use lib.Bits.{bitAnd, bitXor}
-use lib.Pow.{pow-lt, pow-mono, shl-exact}
+use lib.Pow.{pow-mono, shl-exact}
 use lib.Count.{ones}
 use borrow.Author.Tests.{eq-eqb, ne-eqb}
 use Rattle.bits.specs.Vectors.{_⊕_, bit, tab, odd}
@@ -27,7 +27,7 @@ use Rattle.bits.proofs.WordBits.{hasBit-xor, zero-bit, bit-same, bit-other, len
 use Rattle.meaning.specs.Limits.{maskBytes}
 use Rattle.meaning.specs.Sheet.{byte, names, mask}
 use Rattle.meaning.specs.Answers.{isOne}
-use Rattle.codec.specs.Packed.{maskWords, maskWord, held, Holds}
+use Rattle.codec.specs.Packed.{maskWords, maskWord, held, Holds, put}
 
 -- ---- two words
 
@@ -191,11 +191,6 @@ holds-none k j = go (decLt j (64 * k))
 
 -- ---- one value more
 
-pub small-shift : (b k : ℕ) → b < 2 → k < 64 → b * 2 ^ k < 2 ^ 64
-small-shift zero k hb hk = rw (zero-mul (2 ^ k)) (omega arith)
-small-shift (suc zero) k hb hk = rw (one-mul (2 ^ k)) (pow-lt hk)
-small-shift (suc (suc b)) k hb hk = absurd (omega arith)
-
 -- a word with bit t flipped where b is 1
 put-bit : (a t k : ℕ) (b : Bool) → hasBit (bitXor a (bit b * 2 ^ t)) k ≡ hasBit a k ⊕ (eqb k t && b)
 put-bit a t k b = hasBit-xor a (bit b * 2 ^ t) k ∙ ap (λ (c : Bool). hasBit a k ⊕ c) (own b (ℕ-discrete k t))
@@ -211,12 +206,12 @@ snoc-other [] b (suc j) h = refl
 snoc-other (a ∷ c) b zero h = refl
 snoc-other (a ∷ c) b (suc j) h = snoc-other c b j (λ e. h (ap suc e))
 
+pub put-length : (v : List ℕ) (i x : ℕ) → length (put v i x) ≡ length v
+put-length v i x = length-set v (i / 64) _
+
 module _ (v : List ℕ) (c : List Bool) (b : Bool) (i : ℕ) (e : i ≡ length c) (h : i < 64 * length v) (f : Holds v c) where
   abbrev new : List ℕ
-  new = set v (i / 64) (bitXor (getD v (i / 64) 0) (bit b * 2 ^ (i % 64)))
-
-  new-length : length new ≡ length v
-  new-length = length-set v (i / 64) _
+  new = put v i (bit b)
 
   -- bit j of the word of i
   here : (j : ℕ) → j / 64 ≡ i / 64 → hasBit (getD new (j / 64) 0) (j % 64) ≡ hasBit (getD v (j / 64) 0) (j % 64) ⊕ (eqb (j % 64) (i % 64) && b)
@@ -240,6 +235,6 @@ module _ (v : List ℕ) (c : List Bool) (b : Bool) (i : ℕ) (e : i ≡ length c
   holds-more j = go (decLt j (64 * length v)) (ℕ-discrete j i)
     where
       go : Dec (j < 64 * length v) → Dec (j ≡ i) → getD (held new) j false ≡ getD (c ++ (b ∷ [])) j false
-      go (yes l) (yes p) = held-at new j (rw new-length l) ∙ rw p (own ∙ sym (rw e (getD-append-seam c b [] false)))
-      go (yes l) (no n) = held-at new j (rw new-length l) ∙ other j n ∙ sym (held-at v j l) ∙ f j ∙ sym (snoc-other c b j (λ p. n (p ∙ sym e)))
-      go (no l) d = past (held new) j (omega (arith, held-length new, new-length)) ∙ sym (past (c ++ (b ∷ [])) j (omega (arith, length-append c (b ∷ []), e)))
+      go (yes l) (yes p) = held-at new j (rw (put-length v i (bit b)) l) ∙ rw p (own ∙ sym (rw e (getD-append-seam c b [] false)))
+      go (yes l) (no n) = held-at new j (rw (put-length v i (bit b)) l) ∙ other j n ∙ sym (held-at v j l) ∙ f j ∙ sym (snoc-other c b j (λ p. n (p ∙ sym e)))
+      go (no l) d = past (held new) j (omega (arith, held-length new, put-length v i (bit b))) ∙ sym (past (c ++ (b ∷ [])) j (omega (arith, length-append c (b ∷ []), e)))

@@ -4,7 +4,7 @@
 --     Taking           what is known when the free bits of i positions are taken
 --     free-taken, frozen-passed, taken    one position more; all of them
 use mathlib.Core.Path.{_≡_, refl, sym, ap, ap₂, _∙_}
-use Prim.Native.Nat.{ℕ, zero, suc, _+_, _*_, _/_, _%_, _^_, _<_, _≤_}
+use Prim.Native.Nat.{ℕ, zero, suc, _+_, _*_, _<_, _≤_}
 use native.Mathlib.Omega.{arith}
 use native.Mathlib.Numerals.{add-one}
 use mathlib.Core.Bool.{Bool, true, false}
@@ -12,7 +12,6 @@ use mathlib.Core.List.{List, [], _∷_, _++_, map, map-append, append-assoc, app
 use lib.ListN.{length, take, drop, getD, set, replicate, length-set, length-map, length-take, length-replicate, drop-of-length-le}
 use lib.Seq.{drop-cons, take-suc-set, take-all}
 use lib.Dec.{eqb}
-use lib.Bits.{bitXor}
 use borrow.Author.Tests.{eq-eqb, ne-eqb}
 use Rattle.bits.specs.Vectors.{_⊕_, bit, tab, odd}
 use Rattle.bits.proofs.Tests.{length-tab, tab-at}
@@ -22,9 +21,9 @@ use Rattle.meaning.specs.Check.{freeBits}
 use Rattle.meaning.specs.Payload.{place}
 use Rattle.meaning.specs.Answers.{isOne}
 use Rattle.division.proofs.Division.{bit-small}
-use Rattle.codec.specs.Packed.{maskWords, held, Holds}
+use Rattle.codec.specs.Packed.{maskWords, held, Holds, put}
 use Rattle.codec.specs.Ready.{AreBits}
-use Rattle.codec.proofs.Packing.{holds-none, holds-more, odd-held}
+use Rattle.codec.proofs.Packing.{holds-none, put-length, holds-more, odd-held}
 
 -- ---- bytes that are bits
 
@@ -87,15 +86,12 @@ module _ (s : List ℕ) (size : ℕ) where
       abbrev c : List Bool
       c = map isOne (take i u)
 
-      abbrev put : ℕ → List ℕ
-      put x = set v (i / 64) (bitXor (getD v (i / 64) 0) (x * 2 ^ (i % 64)))
-
       length-c : length c ≡ i
       length-c = length-map (take i u) isOne ∙ simp length-take (omega (arith, p .long))
 
       -- the value x of a bit b at position i, with what is left
       goes : size ≤ 8 * maskBytes → (x : ℕ) (b : Bool) (next′ : ℕ) → x ≡ bit b → place (drop i ks) c (drop next f) ≡ b ∷ place (drop (suc i) ks) (c ++ (b ∷ [])) (drop next′ f)
-          → next′ + frees (drop (suc i) ks) ≡ length f → Placing (set u i x) (put x) next′ (i + 1)
+          → next′ + frees (drop (suc i) ks) ≡ length f → Placing (set u i x) (put v i x) next′ (i + 1)
       unfolding maskBytes
       goes small x b next′ ex el er =
           let hu : i < length u = omega (arith, p .long) in
@@ -104,7 +100,7 @@ module _ (s : List ℕ) (size : ℕ) where
           record {
             low = omega arith;
             long = length-set u i x ∙ p .long;
-            wide = length-set v (i / 64) _ ∙ p .wide;
+            wide = put-length v i x ∙ p .wide;
             bits = ap (map bit) cb ∙ map-append bit c (b ∷ []) ∙ ap₂ {C = List ℕ} (λ (l : List ℕ) (y : ℕ). l ++ (y ∷ [])) (p .bits) (sym ex) ∙ sym t;
             holds = rw (cb, ex) (holds-more v c b i (sym length-c) (omega (arith, p .wide)) (p .holds));
             room = rw (add-one i) er;
@@ -118,14 +114,14 @@ module _ (s : List ℕ) (size : ℕ) where
       pub free-room : byte s i 0 ≡ 0 → next < length f
       free-room e = omega (arith, p .room, frees-free i h e)
 
-      pub free-goes : size ≤ 8 * maskBytes → byte s i 0 ≡ 0 → (x : ℕ) → x ≡ bit (getD f next false) → Placing (set u i x) (put x) (next + 1) (i + 1)
+      pub free-goes : size ≤ 8 * maskBytes → byte s i 0 ≡ 0 → (x : ℕ) → x ≡ bit (getD f next false) → Placing (set u i x) (put v i x) (next + 1) (i + 1)
       unfolding place
       free-goes small e x ex =
           goes small x (getD f next false) (next + 1) ex
           (rw (rules-at i h, rule-free s i e, drop-cons f next false (free-room e), add-one next))
           (omega (arith, p .room, frees-free i h e))
 
-      pub frozen-goes : size ≤ 8 * maskBytes → (byte s i 0 ≡ 0 → ⊥) → (x : ℕ) → x ≡ bit (eqb (byte s i 1) 1 ⊕ odd (mask s i) (held v)) → Placing (set u i x) (put x) next (i + 1)
+      pub frozen-goes : size ≤ 8 * maskBytes → (byte s i 0 ≡ 0 → ⊥) → (x : ℕ) → x ≡ bit (eqb (byte s i 1) 1 ⊕ odd (mask s i) (held v)) → Placing (set u i x) (put v i x) next (i + 1)
       unfolding place
       frozen-goes small e x ex =
           let o : odd (mask s i) (held v) ≡ odd (mask s i) c = odd-held (mask s i) v c (p .holds) in

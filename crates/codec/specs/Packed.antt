@@ -3,11 +3,13 @@
 --     maskWord s i k    word k of record i's mask: whether it names position 64 k and the 63 after it
 --     held v            the values that packed words hold: their bits, one word after the other
 --     Holds v c         they are those of c, and 0 past its end
+--     put v i b         the words with b put in for position i, whose bit was 0
 use mathlib.Core.Path.{_≡_}
-use Prim.Native.Nat.{ℕ, _+_, _*_, _/_}
+use Prim.Native.Nat.{ℕ, _+_, _*_, _/_, _%_, _^_}
 use mathlib.Core.Bool.{Bool, false}
 use mathlib.Core.List.{List, [], _∷_, _++_}
-use lib.ListN.{getD}
+use lib.ListN.{getD, set}
+use lib.Bits.{bitXor}
 use Rattle.bits.specs.Vectors.{tab}
 use Rattle.bits.specs.Words.{wordBits}
 use Rattle.meaning.specs.Limits.{maskBytes}
@@ -25,3 +27,6 @@ held (a ∷ v) = wordBits 64 a ++ held v
 
 abbrev pub Holds : List ℕ → List Bool → Type 0
 Holds v c = (j : ℕ) → getD (held v) j false ≡ getD c j false
+
+abbrev pub put : List ℕ → ℕ → ℕ → List ℕ
+put v i b = set v (i / 64) (bitXor (getD v (i / 64) 0) (b * 2 ^ (i % 64)))

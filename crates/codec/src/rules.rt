@@ -1,9 +1,8 @@
 // The frozen rules: what a record says of its position, and the vector that the rules give.
 ghost use mathlib.Core.Path.{_≡_};
 ghost use mathlib.Core.List.{map, []};
-ghost use Prim.Native.Nat.{_+_, _*_, _/_, _%_, _^_, _<_, _≤_};
-ghost use lib.ListN.{length, getD, set};
-ghost use lib.Bits.{bitXor};
+ghost use Prim.Native.Nat.{_+_, _*_, _^_, _<_, _≤_};
+ghost use lib.ListN.{length};
 ghost use lib.Dec.{eqb};
 ghost use Rattle.bits.specs.Vectors.{_⊕_, bit, tab, odd};
 ghost use Rattle.bits.specs.Words.{wordBits};
@@ -12,7 +11,7 @@ ghost use Rattle.meaning.specs.Sheet.{byte, mask, ruleAt, frees};
 ghost use Rattle.meaning.specs.Check.{freeBits};
 ghost use Rattle.meaning.specs.Payload.{place};
 ghost use Rattle.meaning.specs.Answers.{isOne};
-ghost use Rattle.codec.specs.Packed.{maskWords, maskWord, held};
+ghost use Rattle.codec.specs.Packed.{maskWords, maskWord, held, put};
 ghost use Rattle.codec.specs.Ready.{AreBits, Tells};
 use meaning::limits;
 
@@ -74,7 +73,7 @@ fn rule_bit(sheet: &[u8], i: usize, values: &[u64]) -> u8
 // Puts the value b of position i in.
 fn remember(values: &mut [u64], i: usize, b: u8)
     requires { ⌜ ((i < 8 * maskBytes) × (length (now values) ≡ maskWords)) × (b < 2) ⌝ }
-    ensures { λ _. ⌜ now (values .exit) ≡ set (now (values .entry)) (i / 64) (bitXor (getD (now (values .entry)) (i / 64) 0) (b * 2 ^ (i % 64))) ⌝ }
+    ensures { λ _. ⌜ now (values .exit) ≡ put (now (values .entry)) i b ⌝ }
 {
     values[i / 64] = values[i / 64] ^ (wide(b) << (i % 64));
 }

@@ -1,12 +1,11 @@
 use mathlib.Core.Path.{ap, _∙_}
 use Prim.Native.Nat.{ℕ, _*_, _/_, _%_, _^_}
-use native.Mathlib.Nat.{mod-eq-of-lt}
 use native.Mathlib.Omega.{arith}
 use lib.ListN.{getD, set}
 use lib.Bits.{bitXor}
+use lib.Pow.{shl-exact}
 use borrow.Author.Needs.{needs}
 use Rattle.meaning.specs.Limits.{maskBytes}
-use Rattle.codec.proofs.Packing.{small-shift}
 use Rattle.codec.proofs.rules.remember.Statement.{statement}
 use Rattle.codec.proofs.rules.remember.Tie as tie
 
@@ -38,9 +37,10 @@ same-length c = search needs
 returns : tie.Need-returns
 returns c =
     let start = c .before .before .before in
+    let v = start .args .values .now in
     let i = start .args .i in
-    ap (λ (x : ℕ). set (start .args .values .now) (i / 64) (bitXor (getD (start .args .values .now) (i / 64) 0) x))
-    (ap (λ (x : ℕ). x * 2 ^ (i % 64) % 2 ^ 64) (c .wide .ensures .0) ∙ mod-eq-of-lt (small-shift (start .args .b) (i % 64) (start .pre .1) (omega arith)))
+    ap (λ (x : ℕ). set v (i / 64) (bitXor (getD v (i / 64) 0) x))
+    (ap (λ (x : ℕ). x * 2 ^ (i % 64) % 2 ^ 64) (c .wide .ensures .0) ∙ shl-exact 1 (i % 64) 64 (start .pre .1) (omega arith))
 
 pub remember-spec : {M : Type 1} → statement M
 remember-spec =
