@@ -2,15 +2,17 @@
 --     xor-assoc, and-xor     xor is associative; and distributes over it
 --     ones-xor, parity-xor   the count of a xor: the two counts less twice the common one
 --     parity-of-xor          the parity of common 1s is linear
---     bit-xor                bit j of a xor
+--     bit-xor, xor-bit       bit j of a xor; the xor of two bits as numbers
 --     shl-one                1 shifted within a word
 use mathlib.Core.Path.{_≡_, refl, sym, ap, ap₂, _∙_}
 use Prim.Native.Nat.{ℕ, zero, suc, _+_, _*_, _/_, _%_, _^_, _≤_, _<_}
 use native.Mathlib.Omega.{arith}
+use mathlib.Core.Bool.{Bool, true, false}
 use lib.Bits.{bitAnd, bitXor, xor-shr, and-shr, xor-mod, and-mod, xor-add-and}
 use lib.Count.{ones, ones-step}
 use lib.Pow.{pow-lt}
 use native.Mathlib.Nat.{one-mul, mod-eq-of-lt}
+use Rattle.bits.specs.Vectors.{_⊕_, bit}
 use Rattle.bits.specs.Words.{parityOf, bitAt}
 
 -- what holds of both bits holds of a % 2
@@ -105,3 +107,10 @@ bit-xor a b j = rw (xor-shr a b j) (low-xor (a / 2 ^ j) (b / 2 ^ j))
 
 pub shl-one : (n : ℕ) → n < 64 → 1 * 2 ^ n % 2 ^ 64 ≡ 2 ^ n
 shl-one n h = rw (one-mul (2 ^ n)) (mod-eq-of-lt (pow-lt h))
+
+-- two bits as numbers
+pub xor-bit : (a b : Bool) → bitXor (bit a) (bit b) ≡ bit (a ⊕ b)
+xor-bit true true = refl
+xor-bit true false = refl
+xor-bit false true = refl
+xor-bit false false = refl

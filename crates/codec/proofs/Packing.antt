@@ -7,13 +7,12 @@
 use mathlib.Core.Path.{_≡_, refl, sym, ap, ap₂, _∙_}
 use Prim.Native.Nat.{ℕ, zero, suc, _+_, _*_, _/_, _%_, _^_, _<_, _≤_}
 use native.Mathlib.Omega.{arith}
-use native.Mathlib.Nat.{suc-inj, mod-lt, zero-mul, one-mul, lt-of-lt-of-le}
+use native.Mathlib.Nat.{suc-inj, zero-mul, one-mul, lt-of-lt-of-le}
 use native.Mathlib.Decide.{decLt, ℕ-discrete}
-use native.Mathlib.Numerals.{add-one}
 use mathlib.Core.Bool.{Bool, true, false, _&&_}
-use mathlib.Core.List.{List, [], _∷_, _++_, append-assoc, append-nil}
-use lib.ListN.{length, take, getD, length-take, length-append, length-set, replicate, length-replicate, getD-replicate, List·getD-eq-default}
-use lib.Seq.{take-suc, take-all, getD-set-same, getD-set-other, getD-append-seam}
+use mathlib.Core.List.{List, [], _∷_, _++_}
+use lib.ListN.{length, getD, length-append, length-set, replicate, length-replicate, getD-replicate, List·getD-eq-default}
+use lib.Seq.{getD-set-same, getD-set-other, getD-append-seam}
 use lib.Dec.{eqb}
 use lib.Bits.{bitAnd, bitXor}
 use lib.Pow.{pow-mono, shl-exact}
@@ -22,26 +21,19 @@ use borrow.Author.Tests.{eq-eqb, ne-eqb}
 use Rattle.bits.specs.Vectors.{_⊕_, bit, tab, odd}
 use Rattle.bits.specs.Words.{hasBit, parityOf, wordBits}
 use Rattle.bits.proofs.Xor.{⊕-assoc, ⊕-comm, ⊕-false}
-use Rattle.bits.proofs.Tests.{and-false, length-tab, tab-at, tab-below, tab-ext, tab-append}
-use Rattle.bits.proofs.WordBits.{hasBit-xor, zero-bit, bit-same, bit-other, length-wordBits, odd-wordBits, wordBits-tab, join-bits, join-lt}
+use Rattle.bits.proofs.Words.{bit-cases, mod-two, xor-bit}
+use Rattle.bits.proofs.Tests.{and-false, length-tab, tab-at, tab-below, tab-append}
+use Rattle.bits.proofs.WordBits.{hasBit-xor, zero-bit, bit-same, bit-other, odd-wordBits, wordBits-tab, join-bits, join-lt}
 use Rattle.meaning.specs.Limits.{maskBytes}
 use Rattle.meaning.specs.Sheet.{byte, names, mask}
 use Rattle.meaning.specs.Answers.{isOne}
-use Rattle.codec.specs.Packed.{maskWords, maskWord, held, Holds, put}
+use Rattle.codec.specs.Packed.{maskWords, maskWord, valueAt, held, Holds, put}
 
 -- ---- two words
 
-parity-low : (a b : ℕ) → parityOf a b < 2
-parity-low a b = mod-lt (ones (bitAnd a b)) (omega arith)
-
-bit-back : (x : ℕ) → x < 2 → x ≡ bit (isOne x)
-bit-back zero h = refl
-bit-back (suc zero) h = refl
-bit-back (suc (suc x)) h = absurd (omega arith)
-
 -- the count of common ones is odd exactly when an odd number of the named bits hold 1
 parity-bits : (w a b : ℕ) → b < 2 ^ w → parityOf a b ≡ bit (odd (wordBits w a) (wordBits w b))
-parity-bits w a b h = bit-back (parityOf a b) (parity-low a b) ∙ ap bit (sym (odd-wordBits w a b h))
+parity-bits w a b h = bit-cases (λ x. x ≡ bit (isOne x)) refl refl (parityOf a b) (mod-two (ones (bitAnd a b))) ∙ ap bit (sym (odd-wordBits w a b h))
 
 -- ---- the first k words
 
@@ -51,41 +43,31 @@ odd-append [] m′ (b ∷ u) u′ h = absurd (omega arith)
 odd-append (a ∷ m) m′ [] u′ h = absurd (omega arith)
 odd-append (a ∷ m) m′ (b ∷ u) u′ h = ap (λ (t : Bool). (a && b) ⊕ t) (odd-append m m′ u u′ (suc-inj h)) ∙ sym (⊕-assoc (a && b) (odd m u) (odd m′ u′))
 
-xor-bits : (p q : Bool) → bitXor (bit p) (bit q) ≡ bit (p ⊕ q)
-xor-bits true true = refl
-xor-bits true false = refl
-xor-bits false true = refl
-xor-bits false false = refl
-
 pub flipped : (p : Bool) → bitXor (bit p) 1 ≡ bit (true ⊕ p)
-flipped p = xor-bits p true ∙ ap bit (⊕-comm p true)
+flipped p = xor-bit p true ∙ ap bit (⊕-comm p true)
 
-held-length : (v : List ℕ) → length (held v) ≡ 64 * length v
-unfolding held
-held-length [] = refl
-held-length (a ∷ v) = simp length-append (omega (arith, held-length v, length-wordBits 64 a))
-
-held-append : (v v′ : List ℕ) → held (v ++ v′) ≡ held v ++ held v′
-unfolding held
-held-append [] v′ = refl
-held-append (a ∷ v) v′ = ap (λ (t : List Bool). wordBits 64 a ++ t) (held-append v v′) ∙ sym (append-assoc (wordBits 64 a) (held v) (held v′))
-
--- whether an odd number of the places that f names hold 1 in the first k words of v
+-- whether an odd number of the positions that f names hold 1, of those in the first k words of v
 abbrev pub oddFirst : (ℕ → Bool) → List ℕ → ℕ → Bool
-oddFirst f v k = odd (tab (64 * k) f) (held (take k v))
+oddFirst f v k = odd (tab (64 * k) f) (tab (64 * k) (valueAt v))
 
-module _ (f : ℕ → Bool) (v : List ℕ) where
+-- the values in word k are its bits
+own-bits : (v : List ℕ) (k : ℕ) → tab 64 (λ (t : ℕ). valueAt v (64 * k + t)) ≡ wordBits 64 (getD v k 0)
+own-bits v k =
+    tab-below 64 (λ (t : ℕ). valueAt v (64 * k + t)) (hasBit (getD v k 0)) (λ t l.
+    let q : (64 * k + t) / 64 ≡ k = omega arith in
+    let r : (64 * k + t) % 64 ≡ t = omega arith in
+    rw (q, r)) ∙ sym (wordBits-tab 64 (getD v k 0))
+
+module _ (f : ℕ → Bool) (v : List ℕ) (k : ℕ) where
   -- one word more: a has the bits that f names there
-  pub word-more : (k a : ℕ) → k < length v → getD v k 0 < 2 ^ 64 → wordBits 64 a ≡ tab 64 (λ (t : ℕ). f (64 * k + t)) → bitXor (bit (oddFirst f v k)) (parityOf a (getD v k 0)) ≡ bit (oddFirst f v (k + 1))
-  unfolding held
-  word-more k a hk hx e =
+  pub word-more : (a : ℕ) → getD v k 0 < 2 ^ 64 → wordBits 64 a ≡ tab 64 (λ (t : ℕ). f (64 * k + t)) → bitXor (bit (oddFirst f v k)) (parityOf a (getD v k 0)) ≡ bit (oddFirst f v (k + 1))
+  word-more a hx e =
       let x : ℕ = getD v k 0 in
       let n : 64 * (k + 1) ≡ 64 * k + 64 = omega arith in
       let m : tab (64 * (k + 1)) f ≡ tab (64 * k) f ++ wordBits 64 a = rw n (tab-append (64 * k) 64 f ∙ ap (λ (t : List Bool). tab (64 * k) f ++ t) (sym e)) in
-      let u : held (take (k + 1) v) ≡ held (take k v) ++ wordBits 64 x = rw (add-one k, take-suc v k 0 hk) (held-append (take k v) (x ∷ []) ∙ ap (λ (t : List Bool). held (take k v) ++ t) (append-nil (wordBits 64 x))) in
-      let l : length (tab (64 * k) f) ≡ length (held (take k v)) = length-tab (64 * k) f ∙ omega (arith, held-length (take k v), length-take {A = ℕ} k v) in
-      ap (bitXor (bit (oddFirst f v k))) (parity-bits 64 a x hx) ∙ xor-bits (oddFirst f v k) (odd (wordBits 64 a) (wordBits 64 x))
-      ∙ ap bit (sym (ap₂ odd m u ∙ odd-append (tab (64 * k) f) (wordBits 64 a) (held (take k v)) (wordBits 64 x) l))
+      let u : tab (64 * (k + 1)) (valueAt v) ≡ tab (64 * k) (valueAt v) ++ wordBits 64 x = rw n (tab-append (64 * k) 64 (valueAt v) ∙ ap (λ (t : List Bool). tab (64 * k) (valueAt v) ++ t) (own-bits v k)) in
+      ap (bitXor (bit (oddFirst f v k))) (parity-bits 64 a x hx) ∙ xor-bit (oddFirst f v k) (odd (wordBits 64 a) (wordBits 64 x))
+      ∙ ap bit (sym (ap₂ odd m u ∙ odd-append (tab (64 * k) f) (wordBits 64 a) (tab (64 * k) (valueAt v)) (wordBits 64 x) (length-tab (64 * k) f ∙ sym (length-tab (64 * k) (valueAt v)))))
 
 -- all words of a mask
 whole-mask : 64 * maskWords ≡ 8 * maskBytes
@@ -93,8 +75,8 @@ unfolding maskBytes
 whole-mask = refl
 
 pub all-words : (s : List ℕ) (i : ℕ) (v : List ℕ) → length v ≡ maskWords → oddFirst (names s i) v maskWords ≡ odd (mask s i) (held v)
-unfolding mask
-all-words s i v h = ap₂ (λ (n : ℕ) (l : List ℕ). odd (tab n (names s i)) (held l)) whole-mask (take-all maskWords v (omega (arith, h)))
+unfolding mask held
+all-words s i v h = ap₂ (λ (n l : ℕ). odd (tab n (names s i)) (tab (64 * l) (valueAt v))) whole-mask (sym h)
 
 -- ---- a word of the mask, byte by byte
 
@@ -136,26 +118,13 @@ module _ (s : List ℕ) (i k c x b : ℕ) where
 
 -- ---- the values
 
--- bits of k words, by place
-words-bits : (v : List ℕ) → held v ≡ tab (64 * length v) (λ (j : ℕ). hasBit (getD v (j / 64) 0) (j % 64))
+held-length : (v : List ℕ) → length (held v) ≡ 64 * length v
 unfolding held
-words-bits [] = refl
-words-bits (a ∷ v) =
-    let f : ℕ → Bool = λ j. hasBit (getD (a ∷ v) (j / 64) 0) (j % 64) in
-    let n : 64 * suc (length v) ≡ 64 + 64 * length v = omega arith in
-    sym (ap (λ (m : ℕ). tab m f) n ∙ tab-append 64 (64 * length v) f
-    ∙ ap₂ (λ (l r : List Bool). l ++ r)
-    (tab-below 64 f (hasBit a) (λ j l.
-    let q : j / 64 ≡ 0 = omega arith in
-    let m : j % 64 ≡ j = omega arith in
-    rw (q, m)) ∙ sym (wordBits-tab 64 a))
-    (tab-ext (64 * length v) _ _ (λ j.
-    let q : (64 + j) / 64 ≡ suc (j / 64) = omega arith in
-    let m : (64 + j) % 64 ≡ j % 64 = omega arith in
-    rw (q, m)) ∙ sym (words-bits v)))
+held-length v = length-tab (64 * length v) (valueAt v)
 
-held-at : (v : List ℕ) (j : ℕ) → j < 64 * length v → getD (held v) j false ≡ hasBit (getD v (j / 64) 0) (j % 64)
-held-at v j h = ap (λ (l : List Bool). getD l j false) (words-bits v) ∙ tab-at (64 * length v) _ j false h
+held-at : (v : List ℕ) (j : ℕ) → j < 64 * length v → getD (held v) j false ≡ valueAt v j
+unfolding held
+held-at v j h = tab-at (64 * length v) (valueAt v) j false h
 
 past : (l : List Bool) (j : ℕ) → length l ≤ j → getD l j false ≡ false
 past l j h = List·getD-eq-default l false {n = j} h
@@ -214,21 +183,21 @@ module _ (v : List ℕ) (c : List Bool) (b : Bool) (i : ℕ) (e : i ≡ length c
   new = put v i (bit b)
 
   -- bit j of the word of i
-  here : (j : ℕ) → j / 64 ≡ i / 64 → hasBit (getD new (j / 64) 0) (j % 64) ≡ hasBit (getD v (j / 64) 0) (j % 64) ⊕ (eqb (j % 64) (i % 64) && b)
+  here : (j : ℕ) → j / 64 ≡ i / 64 → valueAt new j ≡ valueAt v j ⊕ (eqb (j % 64) (i % 64) && b)
   here j d = rw (d, getD-set-same v (i / 64) (bitXor (getD v (i / 64) 0) (bit b * 2 ^ (i % 64))) 0 (omega arith)) (put-bit (getD v (i / 64) 0) (i % 64) (j % 64) b)
 
   -- i's, which was 0, is b
-  own : hasBit (getD new (i / 64) 0) (i % 64) ≡ b
+  own : valueAt new i ≡ b
   own =
-      let off : hasBit (getD v (i / 64) 0) (i % 64) ≡ false = sym (held-at v i h) ∙ f i ∙ past c i (omega (arith, e)) in
+      let off : valueAt v i ≡ false = sym (held-at v i h) ∙ f i ∙ past c i (omega (arith, e)) in
       here i refl ∙ ap₂ (λ (p q : Bool). p ⊕ (q && b)) off (eq-eqb (i % 64) (i % 64) refl)
 
   -- any other is as it was
-  other : (j : ℕ) → (j ≡ i → ⊥) → hasBit (getD new (j / 64) 0) (j % 64) ≡ hasBit (getD v (j / 64) 0) (j % 64)
+  other : (j : ℕ) → (j ≡ i → ⊥) → valueAt new j ≡ valueAt v j
   other j n = go (ℕ-discrete (j / 64) (i / 64))
     where
-      go : Dec (j / 64 ≡ i / 64) → hasBit (getD new (j / 64) 0) (j % 64) ≡ hasBit (getD v (j / 64) 0) (j % 64)
-      go (yes d) = here j d ∙ ap (λ (q : Bool). hasBit (getD v (j / 64) 0) (j % 64) ⊕ (q && b)) (ne-eqb (j % 64) (i % 64) (λ m. n (omega arith))) ∙ ⊕-false _
+      go : Dec (j / 64 ≡ i / 64) → valueAt new j ≡ valueAt v j
+      go (yes d) = here j d ∙ ap (λ (q : Bool). valueAt v j ⊕ (q && b)) (ne-eqb (j % 64) (i % 64) (λ m. n (omega arith))) ∙ ⊕-false _
       go (no d) = ap (λ (x : ℕ). hasBit x (j % 64)) (getD-set-other v (i / 64) (j / 64) _ 0 d)
 
   pub holds-more : Holds new (c ++ (b ∷ []))

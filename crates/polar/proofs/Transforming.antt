@@ -8,7 +8,7 @@ use Prim.Native.Nat.{ℕ, zero, suc, _+_, _-_, _/_, _^_, _<_, _≤_}
 use native.Mathlib.Omega.{arith}
 use native.Mathlib.Nat.{pow-suc, suc-inj}
 use native.Mathlib.Numerals.{add-one}
-use mathlib.Core.Bool.{Bool, true, false}
+use mathlib.Core.Bool.{Bool, false}
 use mathlib.Core.List.{List, [], _∷_, _++_, map, map-append, append-nil}
 use lib.ListN.{length, take, drop, set, getD, length-set, length-append, length-take, length-drop, length-map, take-append-drop, drop-of-length-le}
 use lib.Pow.{pow-mono}
@@ -17,7 +17,8 @@ use lib.Bits.{bitXor}
 use lib.Dec.{eqb}
 use borrow.Author.Tests.{eq-eqb, ne-eqb}
 use borrow.Rule.Slice.PartMut.{putMid}
-use Rattle.bits.specs.Vectors.{_⊕_, _⊞_, bit}
+use Rattle.bits.specs.Vectors.{_⊞_, bit}
+use Rattle.bits.proofs.Words.{xor-bit}
 use Rattle.meaning.specs.Transform.{polar}
 use Rattle.meaning.proofs.Polar.{halves, polar-append, length-polar}
 use Rattle.polar.specs.Bytes.{xorBytes, folded, polarBytes, transformed}
@@ -103,12 +104,6 @@ join l a b n h p e eh la ea eb =
     rw (take-at a b h la, drop-at a b h la, bytes-suc n p l, ← q, ← ea, ← eb)
 
 -- ---- bytes that are bits
-
-xor-bit : (a b : Bool) → bitXor (bit a) (bit b) ≡ bit (a ⊕ b)
-xor-bit true true = refl
-xor-bit true false = refl
-xor-bit false true = refl
-xor-bit false false = refl
 
 xor-bits : (s t : List Bool) → length s ≡ length t → xorBytes (map bit s) (map bit t) ≡ map bit (s ⊞ t)
 unfolding xorBytes

@@ -53,7 +53,7 @@ loop-again c =
       omega arith,
       ap₂ bitXor (inv .1) (c .parity .ensures)
           ∙ word-more (names (start .args .sheet .now) (start .args .i)) (start .args .values .now) (turn .before .loop .k) (call .mask-word .result)
-          (omega arith) (c .before .shared-slice-known3 .given _ .fits) (call .mask-word .ensures),
+          (c .before .shared-slice-known3 .given _ .fits) (call .mask-word .ensures),
     )
 
 returns : tie.Need-returns Inv-loop μ-loop
