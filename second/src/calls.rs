@@ -154,8 +154,8 @@ fn payload_read(
 /// `strips` holds the output of decoding, or nothing where it was left untouched.
 pub fn answer_record(answer: Answer, strips: &[u8], length: usize) -> Vec<u8> {
     let mut record = vec![0; HEADER_BYTES];
-    for (byte, number) in record.iter_mut().zip(answer.numbers()) {
-        *byte = u8::try_from(number).expect("a number of one byte");
+    for (bytes, number) in record.chunks_mut(2).zip(answer.numbers()) {
+        bytes.copy_from_slice(&number.to_le_bytes());
     }
     record.resize(ANSWER_BYTES, 255);
     let places = record[HEADER_BYTES..].chunks_mut(STRIP_BYTES);

@@ -8,7 +8,7 @@ use crate::files::File;
 use crate::make::bytes;
 use crate::rng::Rng;
 use crate::sheet::{Record, Sheet};
-use crate::show::{refusal, show, verdict};
+use crate::show::{self, refusal, show, verdict};
 use crate::words::Codewords;
 
 /// N is 2 to this: as many symbols as cartridges.
@@ -284,7 +284,7 @@ These files are made by `second lot` and held by `second compare-lot`.
 
 /// A row of the table: the verdict with its counts, or the refusal with its reason.
 fn row(number: usize, done: &str, record: &[u8]) -> String {
-    let [code, place, g, m, d] = [0, 1, 2, 3, 4].map(|at| record[at]);
+    let [code, place, g, m, d] = [0, 1, 2, 3, 4].map(|at| show::number(record, at));
     let verdict = verdict(code);
     let (said, counts) = match code {
         0..=2 => (verdict, format!("{g} | {m} | {d}")),

@@ -77,12 +77,12 @@ fn refusals(rng: &mut Rng) -> Vec<u8> {
     let mut records = Vec::new();
     for (length, choice) in [
         (0, &[0, 63][..]),
-        (2559, &[0, 63]),
-        (2560, &[]),
-        (2560, &[0, 63, 0]),
-        (2560, &[5, 63]),
-        (2560, &[0, 64]),
-        (2560, &[0, 0]),
+        (8703, &[0, 63]),
+        (8704, &[]),
+        (8704, &[0, 63, 0]),
+        (8704, &[5, 63]),
+        (8704, &[0, 64]),
+        (8704, &[0, 0]),
     ] {
         records.extend(answer_records(&sheet[..length], choice, &word));
     }
@@ -110,7 +110,7 @@ fn by_hand() -> Vec<u8> {
     let mut records = Vec::new();
     for code in (0..=20).chain([77, 99, 100, 255]) {
         let mut record = answer_record(Answer::code(code), &[], 1);
-        record[1..HEADER_BYTES].fill(255);
+        record[2..HEADER_BYTES].fill(255);
         records.extend(record);
     }
     for code in 0..=2 {

@@ -14,10 +14,10 @@ const KINDS: [&str; 5] = [
 ];
 
 /// The kind of a code, as an index.
-fn kind(code: u8) -> usize {
+fn kind(code: u16) -> usize {
     match code {
-        0..=2 => code.into(),
-        code if ORDER.contains(&code.into()) => 3,
+        0..=2 => usize::from(code),
+        code if ORDER.contains(&code) => 3,
         _ => 4,
     }
 }
@@ -35,7 +35,7 @@ fn digits(record: &[u8], strip: usize) -> String {
 }
 
 /// The verdict of a code, or that it is a refusal, in one or two words.
-pub fn verdict(code: u8) -> String {
+pub fn verdict(code: u16) -> String {
     match kind(code) {
         3 => format!("refused {code}"),
         kind => KINDS[kind].to_string(),
@@ -43,9 +43,9 @@ pub fn verdict(code: u8) -> String {
 }
 
 /// What a refusal says, by its code.
-pub fn refusal(code: u8, place: u8) -> String {
+pub fn refusal(code: u16, place: u16) -> String {
     match code {
-        11 => "the sheet is not 20 N bytes long for an N up to 128".to_string(),
+        11 => "the sheet is not 68 N bytes long for an N up to 512".to_string(),
         12 => format!("record {place} of the sheet breaks a rule"),
         13 => "choice.bin is not two bytes, or its check length is not 0, 6 or 11, \
                or leaves no payload"
@@ -53,16 +53,21 @@ pub fn refusal(code: u8, place: u8) -> String {
         14 => "the word is cut off".to_string(),
         15 => format!("symbol {place} is none of 0, 1 and 2"),
         16 => "the output is too short".to_string(),
-        17 => "the ceiling is above 63".to_string(),
+        17 => "the ceiling is above 255".to_string(),
         18 => "more unknowns than the ceiling allows".to_string(),
         19 => "the sheet has no free position: it holds nothing".to_string(),
         code => panic!("no refusal {code}"),
     }
 }
 
+/// Number 0 to 4 of a record: two bytes, low first.
+pub fn number(record: &[u8], at: usize) -> u16 {
+    u16::from_le_bytes([record[2 * at], record[2 * at + 1]])
+}
+
 /// What a record says, without its number.
 pub fn said(record: &[u8]) -> String {
-    let [code, place, g, m, d] = [0, 1, 2, 3, 4].map(|at| record[at]);
+    let [code, place, g, m, d] = [0, 1, 2, 3, 4].map(|at| number(record, at));
     let counts = format!("g {g:>3}  m {m:>3}  d {d:>3}");
     let [settled, first, last] = [0, 1, 2].map(|strip| digits(record, strip));
     let text = match code {
@@ -85,7 +90,7 @@ pub fn show(input: &[u8]) -> String {
     let mut counts = [0; KINDS.len()];
     for (at, record) in records.enumerate() {
         text += &format!("{:>6}  {}\n", at + 1, said(record));
-        counts[kind(record[0])] += 1;
+        counts[kind(number(record, 0))] += 1;
     }
     text.push('\n');
     for (at, (name, count)) in KINDS.into_iter().zip(counts).enumerate() {

@@ -40,7 +40,7 @@ shaped-true n s d h =
 
 pub positions : (n d : ℕ) → n ≤ largestN → d ≡ 2 ^ n → d ≤ 8 * maskBytes
 unfolding largestN maskBytes
-positions n d h e = omega (arith, pow-mono {i = n} {j = 7} h)
+positions n d h e = omega (arith, pow-mono {i = n} {j = largestN} h)
 
 -- ---- the count
 

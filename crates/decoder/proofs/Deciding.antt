@@ -3,16 +3,18 @@
 --     decode-refused                                         decoding is refused for it
 --     form-none, decode-formed                               nothing is refused: what is left to decide
 --     decode-passed, decode-decided                          the same, where no fault was found
---     within, rows-long, rows-back                           there is room for the rows
+--     over, formed-at, decided-at                            the unknowns are counted first
+--     row-fits, within, rows-long, rows-back                 there is room for the rows
 use mathlib.Core.Path.{_≡_, refl, sym, ap, _∙_}
-use Prim.Native.Nat.{ℕ, _*_, _-_, _/_, _^_, _≤_, _<_}
+use Prim.Native.Nat.{ℕ, _+_, _*_, _-_, _/_, _^_, _≤_, _<_}
+use native.Mathlib.Nat.{le-trans, le-of-eq, mul-le-mul}
 use native.Mathlib.Omega.{arith}
 use mathlib.Core.Bool.{Bool, true, false}
 use mathlib.Core.List.{List, [], _∷_, _++_, append-assoc}
 use lib.ListN.{length, take, length-take}
 use lib.Dec.{ltb}
 use lib.Pow.{pow-mono}
-use borrow.Author.Tests.{lt-ltb, le-ltb, ltb-false}
+use borrow.Author.Tests.{lt-ltb, le-ltb, le-leb, eq-eqb, ltb-false}
 use borrow.Rule.Slice.PartMut.{postOf, same-len-mid}
 use Rattle.bits.specs.Vectors.{pick}
 use Rattle.bits.proofs.Tests.{or-false-l}
@@ -26,7 +28,9 @@ use Rattle.meaning.specs.declared.Answer.the-variants.{Done, BadCeiling, TooMan
 use Rattle.meaning.proofs.Refusals.{tried-done, tried-refused, past-none, none-append, both-none}
 use Rattle.meaning.proofs.Forms.{good, checked-none, worded, worded-none}
 use Rattle.form.proofs.Records.{records-in}
-use Rattle.decoder.specs.Deciding.{decodeFault, deciding, Formed}
+use Rattle.counting.specs.Counting.{shaped, counting}
+use Rattle.descent.specs.Descending.{widest}
+use Rattle.decoder.specs.Deciding.{decodeFault, deciding, mostWords, Formed}
 
 -- ---- the fault of form
 
@@ -126,16 +130,52 @@ module _ (n : ℕ) (s : List ℕ) (r c : ℕ) (w out : List ℕ) where
     pub decode-decided : b ≡ true → (x : Reply) → x ≡ deciding n s r c w out → x ≡ decoding n s r c w out
     decode-decided t x p = p ∙ decode-formed (none t)
 
--- ---- room for the rows
+-- ---- the words of a row
 
-module _ (n : ℕ) (s : List ℕ) (r c : ℕ) (w out : List ℕ) (F : Formed n s r c w out) where
-  -- there is room for the rows of N symbols
-  pub within : (k : ℕ) → 2 ^ largestN * 2 ≤ k → 2 * length w ≤ k
-  within k h = omega (arith, h, F .symbols, pow-mono (F .small))
+-- a word for each 64 unknowns, and one for the constant
+module _ (n : ℕ) (s : List ℕ) (r c : ℕ) (w out : List ℕ) (F : Formed n s r c w out) (g : ℕ) (eg : g ≡ counting n s w) where
+  pub all-counted : g ≡ unknowns n (rules n s) w
+  unfolding counting shaped
+  all-counted = eg ∙ rw (le-leb n largestN (F .small), eq-eqb (length s) (2 ^ n * recordBytes) (F .long), eq-eqb (length w) (2 ^ n) (F .symbols)) refl
 
-  pub rows-long : (l : List ℕ) → 2 ^ largestN * 2 ≤ length l → length (take (2 * length w - 0) l) ≡ 2 ^ n * 2
-  rows-long l h = let k = within (length l) h in simp length-take (omega (arith, k, F .symbols))
+  pub over : c < g → leaving out (TooMany g) ≡ deciding n s r c w out
+  unfolding deciding
+  over h = ap (λ (k : ℕ). leaving out (TooMany k)) all-counted ∙ sym (rw (lt-ltb c (unknowns n (rules n s) w) (omega (arith, all-counted))) refl)
+
+  module _ (h : g ≤ c) where
+    -- the ceiling can as well be the number of unknowns
+    pub formed-at : Formed n s r g w out
+    formed-at =
+        record {
+          small = F .small;
+          long = F .long;
+          ordered = F .ordered;
+          check = F .check;
+          enough = F .enough;
+          symbols = F .symbols;
+          room = F .room;
+          low = omega (arith, F .low);
+        }
+
+    pub decided-at : (x : Reply) → x ≡ deciding n s r g w out → x ≡ deciding n s r c w out
+    unfolding deciding
+    decided-at x p = p ∙ rw (le-ltb g (unknowns n (rules n s) w) (omega (arith, all-counted)), le-ltb c (unknowns n (rules n s) w) (omega (arith, all-counted))) refl
+
+    pub row-fits : (g / 64 + 1 < g / 64 + 1 + 1) × (g / 64 + 1 + 1 ≤ widest) × (g ≤ 64 * (g / 64 + 1))
+    unfolding widest largestCeiling
+    row-fits = let l = F .low in (omega arith, omega arith, omega arith)
+
+    few-words : g / 64 + 1 + 1 ≤ mostWords
+    unfolding mostWords largestCeiling
+    few-words = let l = F .low in omega arith
+
+    -- there is room for the rows of N symbols
+    pub within : (k : ℕ) → 2 ^ largestN * mostWords ≤ k → length w * (g / 64 + 1 + 1) ≤ k
+    within k h = le-trans (mul-le-mul (le-trans (le-of-eq (F .symbols)) (pow-mono (F .small))) few-words) h
+
+    pub rows-long : (l : List ℕ) → 2 ^ largestN * mostWords ≤ length l → length (take (length w * (g / 64 + 1 + 1) - 0) l) ≡ 2 ^ n * (g / 64 + 1 + 1)
+    rows-long l h = let k = within (length l) h in simp length-take (omega (arith, k)) ∙ ap (λ (t : ℕ). t * (g / 64 + 1 + 1)) (F .symbols)
 
 -- a list whose rows came back is as long as before
-pub rows-back : (w l x : List ℕ) → length x ≡ length (take (2 * length w - 0) l) → length (x ++ postOf 0 (2 * length w - 0) l) ≡ length l
-rows-back w l x e = same-len-mid 0 (2 * length w - 0) l x e
+pub rows-back : (k : ℕ) (l x : List ℕ) → length x ≡ length (take (k - 0) l) → length (x ++ postOf 0 (k - 0) l) ≡ length l
+rows-back k l x e = same-len-mid 0 (k - 0) l x e

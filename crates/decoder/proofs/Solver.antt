@@ -1,8 +1,8 @@
--- What a call of the solver leaves, on rows of two words.
+-- What a call of the solver leaves, on rows of wd words, co of them coefficients.
 --     never-misfit     the shapes fit
 --     concluded        the verdict that is read off what it leaves, where all fits together, is that of `solve`
-use mathlib.Core.Path.{_≡_, ap, _∙_}
-use Prim.Native.Nat.{ℕ, _*_, _/_, _≤_}
+use mathlib.Core.Path.{_≡_, sym, ap, subst, _∙_}
+use Prim.Native.Nat.{ℕ, _*_, _/_, _≤_, _<_}
 use native.Mathlib.Omega.{arith}
 use mathlib.Core.Bool.{true}
 use mathlib.Core.List.{List}
@@ -16,27 +16,34 @@ use Rattle.gf2.proofs.Calls.{left}
 use Rattle.meaning.specs.Answers.{Reply}
 use Rattle.verdict.specs.Reading.{rowVerdict}
 use Rattle.reading.specs.Concluding.{concluding}
-use Rattle.reading.proofs.Fitting.{Fit, concluding-is}
+use Rattle.reading.proofs.Fitting.{Fit, nothing-over, concluding-is}
 
-module _ (e r e₁ r₁ : List ℕ) (o : Outcome) (he : length e ≡ 2 * (length e / 2)) (hr : length r ≡ 2 * (length r / 2)) (h : done e₁ r₁ o ≡ solved 1 2 e r) where
+module _ (co wd : ℕ) (hw : co < wd) (e r e₁ r₁ : List ℕ) (o : Outcome) (he : length e ≡ length e / wd * wd) (hr : length r ≡ length r / wd * wd) (h : done e₁ r₁ o ≡ solved co wd e r) where
   abbrev after : Sys
-  after = solve 1 (rowsOf 2 e) (rowsOf 2 r)
+  after = solve co (rowsOf wd e) (rowsOf wd r)
 
-  fit : fits 1 2 e r ≡ true
-  fit = all-fit 1 2 e r (λ (z : _≡_ {A = ℕ} 2 0). absurd (omega arith)) (omega arith) (omega arith) (omega arith)
+  fit : fits co wd e r ≡ true
+  fit = all-fit co wd e r (λ (z : wd ≡ 0). absurd (omega arith)) (omega arith) (nothing-over wd (length e) he) (nothing-over wd (length r) hr)
 
   pub never-misfit : {A : Type 0} → o ≡ Misfit → A
-  never-misfit q = let v = left 1 2 e r e₁ r₁ o fit h .rank-is in let z : _≡_ {A = ℕ} 0 1 = cc in absurd (omega arith)
+  never-misfit q = let v = left co wd e r e₁ r₁ o fit h .rank-is in let z : _≡_ {A = ℕ} 0 1 = cc in absurd (omega arith)
 
   rank-is : (k : ℕ) → o ≡ Rank k → k ≡ after .rank
-  rank-is k q = let v = left 1 2 e r e₁ r₁ o fit h .rank-is in cc
+  rank-is k q = let v = left co wd e r e₁ r₁ o fit h .rank-is in cc
 
-  system-is : (k : ℕ) → o ≡ Rank k → sys (rowsOf 2 e₁) (rowsOf 2 r₁) k ≡ after
-  system-is k q = let l = left 1 2 e r e₁ r₁ o fit h in λ i. record { eqs = l .eqs-are i; rest = l .rest-are i; rank = rank-is k q i }
+  system-is : (k : ℕ) → o ≡ Rank k → sys (rowsOf wd e₁) (rowsOf wd r₁) k ≡ after
+  system-is k q = let l = left co wd e r e₁ r₁ o fit h in λ i. record { eqs = l .eqs-are i; rest = l .rest-are i; rank = rank-is k q i }
 
-  module _ (g m k : ℕ) (out : List ℕ) (q : o ≡ Rank k) (ke : length e₁ ≡ length e) (kr : length r₁ ≡ length r) (low : g ≤ 63) (rank : after .rank ≤ g) (room : 3 * (length r / 2) ≤ length out) where
-    reads : Fit g k (length e₁) (length r₁) (length out)
-    reads = record { low = low; symbols = omega arith; roomy = omega arith; pivots = omega (arith, rank-is k q, rank); equations = omega arith }
+  module _ (g m k : ℕ) (out : List ℕ) (q : o ≡ Rank k) (ke : length e₁ ≡ length e) (kr : length r₁ ≡ length r) (rank : after .rank ≤ g) (room : 3 * (length r / wd) ≤ length out) where
+    reads : Fit co wd g k (length e₁) (length r₁) (length out)
+    reads =
+        record {
+          wide = hw;
+          symbols = subst (λ (l : ℕ). l ≡ l / wd * wd) (sym kr) hr;
+          roomy = subst (λ (l : ℕ). 3 * (l / wd) ≤ length out) (sym kr) room;
+          pivots = omega (arith, rank-is k q, rank);
+          equations = subst (λ (l : ℕ). l ≡ l / wd * wd) (sym ke) he;
+        }
 
-    pub concluded : (x : Reply) → x ≡ concluding g m k e₁ r₁ out → x ≡ rowVerdict 1 g m after out
-    concluded x p = p ∙ concluding-is g m k e₁ r₁ out reads ∙ ap (λ (s : Sys). rowVerdict 1 g m s out) (system-is k q)
+    pub concluded : (x : Reply) → x ≡ concluding co wd g m k e₁ r₁ out → x ≡ rowVerdict co g m after out
+    concluded x p = p ∙ concluding-is co wd g m k e₁ r₁ out reads ∙ ap (λ (s : Sys). rowVerdict co g m s out) (system-is k q)

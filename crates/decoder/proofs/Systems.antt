@@ -1,26 +1,25 @@
 -- The equations of a descent with those of the check behind them, as the solver reads them.
---     rows-agree       the rows of a list, read one after the other or by their places
 --     check-fits       the check's rows can be appended
 --     system-part      the part of the list that then holds the system
 --     finishing, settled-as     what the last step needs, and what it gives
 use mathlib.Core.Path.{_≡_, refl, sym, ap, ap₂, _∙_}
 use mathlib.Core.Logic.{_⊎_, inl, inr}
-use Prim.Native.Nat.{ℕ, zero, suc, _+_, _*_, _/_, _^_, _≤_}
+use Prim.Native.Nat.{ℕ, _+_, _*_, _/_, _^_, _≤_, _<_}
 use native.Mathlib.Omega.{arith}
-use native.Mathlib.Nat.{zero-mul}
+use native.Mathlib.Nat.{add-mul, mul-div-cancel, mul-le-mul-left}
 use mathlib.Core.Bool.{Bool, true}
 use mathlib.Core.List.{List, [], _∷_, _++_, flatten, append-assoc}
 use lib.ListN.{length, take, drop, length-append}
-use lib.Seq.{take-at, drop-drop}
+use lib.Seq.{take-at}
 use borrow.Author.Tests.{eq-eqb, le-leb, lt-ltb}
 use Rattle.bits.specs.Rows.{Row, Wide}
 use Rattle.bits.specs.Rows as bits
-use Rattle.bits.proofs.Tests.{tab-ext, and-i, length-tab}
+use Rattle.bits.proofs.Tests.{and-i, length-tab}
 use Rattle.bits.proofs.RowLaws.{rows-flatten, flatten-rows, wide-rows, length-flatten}
 use Rattle.gf2.specs.Rows.{rowsOf}
-use Rattle.gf2.specs.Rows as gf2
 use Rattle.gf2.specs.Solve.{solve}
 use Rattle.verdict.specs.Reading.{rowVerdict}
+use Rattle.reading.proofs.Cutting.{rows-agree}
 use Rattle.meaning.specs.Limits.{largestN, recordBytes}
 use Rattle.meaning.specs.Answers.{Reply}
 use Rattle.descent.specs.Descending.{widest}
@@ -29,14 +28,15 @@ use Rattle.checks.proofs.Columns.{length-check, check-wide}
 use Rattle.checks.proofs.Promise.{check-tells}
 use Rattle.decoder.specs.Deciding.{systemRows, Settling}
 
-pub rows-agree : (w n : ℕ) (l : List ℕ) → gf2.rows w n l ≡ bits.rows w n l
-unfolding gf2.rows
-rows-agree w zero l = refl
-rows-agree w (suc n) l =
-    ap₂ {C = List Row} (λ k t. take w (drop k l) ∷ t) (sym (zero-mul w)) (rows-agree w n (drop w l) ∙ tab-ext n (bits.row w (drop w l)) (λ (j : ℕ). bits.row w l (suc j)) next)
-  where
-    next : (j : ℕ) → bits.row w (drop w l) j ≡ bits.row w l (suc j)
-    next j = let e : w + j * w ≡ suc j * w = omega arith in ap (take w) (drop-drop (j * w) w l ∙ ap (λ (k : ℕ). drop k l) e)
+-- as many rows as there are
+pub many-rows : (wd k l : ℕ) → 0 < wd → l ≡ k * wd → l / wd ≡ k
+many-rows wd k l h e = ap (λ (t : ℕ). t / wd) e ∙ mul-div-cancel k h
+
+all-rows : (wd k l : ℕ) → 0 < wd → l ≡ k * wd → l ≡ l / wd * wd
+all-rows wd k l h e = e ∙ ap (λ (t : ℕ). t * wd) (sym (many-rows wd k l h e))
+
+pub few-rows : (wd k l : ℕ) → 0 < wd → k * wd ≤ l → k ≤ l
+few-rows wd k l h e = let p : k * 1 ≤ k * wd = mul-le-mul-left k h in omega arith
 
 flatten-append : (a b : List Row) → flatten (a ++ b) ≡ flatten a ++ flatten b
 unfolding flatten
@@ -53,59 +53,64 @@ there (inl e) = rw e refl
 there (inr (inl e)) = rw e refl
 there (inr (inr e)) = rw e refl
 
-module _ (n : ℕ) (s : List ℕ) (r : ℕ) (us : List ℕ) (m : ℕ) (eqs : List ℕ)
-    (small : n ≤ largestN) (long : length s ≡ 2 ^ n * recordBytes) (check : (r ≡ 0) ⊎ ((r ≡ 6) ⊎ (r ≡ 11))) (lu : length us ≡ 2 ^ n * 2) (room : (m + r) * 2 ≤ length eqs) where
-  pub check-fits : checkFits n (length s) r 1 2 (length us) m (length eqs) ≡ true
-  unfolding checkFits recorded spaced widest
+module _ (co wd n : ℕ) (s : List ℕ) (r : ℕ) (us : List ℕ) (m : ℕ) (eqs : List ℕ) (hw : co < wd) (nw : wd ≤ widest)
+    (small : n ≤ largestN) (long : length s ≡ 2 ^ n * recordBytes) (check : (r ≡ 0) ⊎ ((r ≡ 6) ⊎ (r ≡ 11))) (lu : length us ≡ 2 ^ n * wd) (room : (m + r) * wd ≤ length eqs) where
+  pub check-fits : checkFits n (length s) r co wd (length us) m (length eqs) ≡ true
+  unfolding checkFits recorded spaced
   check-fits =
       and-i _ _ (and-i _ _ (le-leb n largestN small) (eq-eqb (length s) (2 ^ n * recordBytes) long))
-      (and-i _ _ (there check) (and-i _ _ (and-i _ _ (le-leb 2 65536 (omega arith)) (and-i _ _ (lt-ltb 1 2 (omega arith)) (le-leb ((m + r) * 2) (length eqs) room))) (eq-eqb (length us) (2 ^ n * 2) lu)))
+      (and-i _ _ (there check) (and-i _ _ (and-i _ _ (le-leb wd widest nw) (and-i _ _ (lt-ltb co wd hw) (le-leb ((m + r) * wd) (length eqs) room))) (eq-eqb (length us) (2 ^ n * wd) lu)))
 
-  module _ (t : Bool) (e : List ℕ) (q : checked t e ≡ checking n s r 1 2 us m eqs) where
+  module _ (t : Bool) (e : List ℕ) (q : checked t e ≡ checking n s r co wd us m eqs) where
     abbrev CH : List Row
-    CH = checkOf n s r 1 2 us
+    CH = checkOf n s r co wd us
 
     abbrev X : List ℕ
-    X = take (m * 2) eqs ++ flatten CH
+    X = take (m * wd) eqs ++ flatten CH
 
-    whole : flatten (bits.rows 2 m eqs ++ CH) ≡ X
-    whole = flatten-append (bits.rows 2 m eqs) CH ∙ ap {B = List ℕ} (λ t. t ++ flatten CH) (flatten-rows 2 m eqs)
+    whole : flatten (bits.rows wd m eqs ++ CH) ≡ X
+    whole = flatten-append (bits.rows wd m eqs) CH ∙ ap {B = List ℕ} (λ t. t ++ flatten CH) (flatten-rows wd m eqs)
 
-    wide : Wide 2 (bits.rows 2 m eqs ++ CH)
-    wide = wide-append 2 (bits.rows 2 m eqs) CH (wide-rows 2 m eqs (omega arith)) (check-wide n s r 1 2 us (omega arith) lu)
+    enough : m * wd ≤ length eqs
+    enough = omega (arith, room, add-mul m r wd)
 
-    many : length (bits.rows 2 m eqs ++ CH) ≡ m + r
-    many = length-append (bits.rows 2 m eqs) CH ∙ ap₂ _+_ (length-tab m (bits.row 2 eqs)) (length-check n s r 1 2 us (omega arith) lu)
+    wide : Wide wd (bits.rows wd m eqs ++ CH)
+    wide = wide-append wd (bits.rows wd m eqs) CH (wide-rows wd m eqs enough) (check-wide n s r co wd us hw lu)
 
-    X-length : length X ≡ 2 * (m + r)
-    X-length = ap length (sym whole) ∙ length-flatten 2 (bits.rows 2 m eqs ++ CH) wide ∙ omega (arith, many)
+    many : length (bits.rows wd m eqs ++ CH) ≡ m + r
+    many = length-append (bits.rows wd m eqs) CH ∙ ap₂ _+_ (length-tab m (bits.row wd eqs)) (length-check n s r co wd us hw lu)
 
-    part : (k : ℕ) → k ≡ 2 * (m + r) → take k e ≡ X
-    part k h = ap (take k) (check-tells n s r 1 2 us m eqs check-fits t e q) ∙ take-at X (drop ((m + r) * 2) eqs) k (X-length ∙ sym h)
+    X-length : length X ≡ (m + r) * wd
+    X-length = ap length (sym whole) ∙ length-flatten wd (bits.rows wd m eqs ++ CH) wide ∙ ap (λ (k : ℕ). k * wd) many
 
-    pub system-length : (k : ℕ) → k ≡ 2 * (m + r) → length (take k e) ≡ 2 * (m + r)
+    part : (k : ℕ) → k ≡ (m + r) * wd → take k e ≡ X
+    part k h = ap (take k) (check-tells n s r co wd us m eqs check-fits t e q) ∙ take-at X (drop ((m + r) * wd) eqs) k (X-length ∙ sym h)
+
+    pub system-length : (k : ℕ) → k ≡ (m + r) * wd → length (take k e) ≡ (m + r) * wd
     system-length k h = ap length (part k h) ∙ X-length
 
-    pub system-part : (k : ℕ) → k ≡ 2 * (m + r) → rowsOf 2 (take k e) ≡ systemRows n s r m us eqs
+    pub system-part : (k : ℕ) → k ≡ (m + r) * wd → rowsOf wd (take k e) ≡ systemRows co wd n s r m us eqs
     unfolding systemRows
     system-part k h =
-        let l = X-length in
-        let c : length X / 2 ≡ length (bits.rows 2 m eqs ++ CH) = omega (arith, many) in
-        ap (rowsOf 2) (part k h) ∙ rows-agree 2 (length X / 2) X ∙ ap₂ (bits.rows 2) c (sym whole) ∙ rows-flatten 2 (bits.rows 2 m eqs ++ CH) wide
+        let c : length X / wd ≡ length (bits.rows wd m eqs ++ CH) = many-rows wd (m + r) (length X) (omega arith) X-length ∙ sym many in
+        ap (rowsOf wd) (part k h) ∙ rows-agree wd (length X / wd) X ∙ ap₂ (bits.rows wd) c (sym whole) ∙ rows-flatten wd (bits.rows wd m eqs ++ CH) wide
 
 -- ---- the last step
 
-module _ (n : ℕ) (s : List ℕ) (r g m : ℕ) (us eqs vals : List ℕ) (room : ℕ) (S : Settling n s r g m us eqs vals room) (t : Bool) (e : List ℕ) (q : checked t e ≡ checking n s r 1 2 us m eqs) (k : ℕ) (h : k ≡ 2 * (m + r)) where
-  pub read-system : rowsOf 2 (take k e) ≡ systemRows n s r m us eqs
-  read-system = system-part n s r us m eqs (S .small) (S .long) (S .check) (S .rows-u) (S .rows-e) t e q k h
+module _ (co wd n : ℕ) (s : List ℕ) (r g m : ℕ) (us eqs vals : List ℕ) (room : ℕ) (S : Settling co wd n s r g m us eqs vals room) (t : Bool) (e : List ℕ) (q : checked t e ≡ checking n s r co wd us m eqs) (k : ℕ) (h : k ≡ (m + r) * wd) where
+  some : 0 < wd
+  some = omega (arith, S .wide)
 
-  pub finishing : ((g ≤ 63) × (length vals ≡ 2 * (length vals / 2)) × (3 * (length vals / 2) ≤ room))
-      × ((length (take k e) ≡ 2 * (length (take k e) / 2)) × ((solve 1 (rowsOf 2 (take k e)) (rowsOf 2 vals)) .rank ≤ g))
+  pub read-system : rowsOf wd (take k e) ≡ systemRows co wd n s r m us eqs
+  read-system = system-part co wd n s r us m eqs (S .wide) (S .narrow) (S .small) (S .long) (S .check) (S .rows-u) (S .rows-e) t e q k h
+
+  pub finishing : ((co < wd) × (length vals ≡ length vals / wd * wd) × (3 * (length vals / wd) ≤ room))
+      × ((length (take k e) ≡ length (take k e) / wd * wd) × ((solve co (rowsOf wd (take k e)) (rowsOf wd vals)) .rank ≤ g))
   finishing =
-      let v = S .rows-v in
       let p = S .roomy in
-      let l = system-length n s r us m eqs (S .small) (S .long) (S .check) (S .rows-u) (S .rows-e) t e q k h in
-      ((S .low, omega arith, omega arith), (omega arith, rw read-system (S .rank)))
+      let v = many-rows wd (2 ^ n) (length vals) some (S .rows-v) in
+      let l = system-length co wd n s r us m eqs (S .wide) (S .narrow) (S .small) (S .long) (S .check) (S .rows-u) (S .rows-e) t e q k h in
+      ((S .wide, all-rows wd (2 ^ n) (length vals) some (S .rows-v), omega arith), (all-rows wd (m + r) (length (take k e)) some l, rw read-system (S .rank)))
 
-  pub settled-as : (out : List ℕ) (x : Reply) → x ≡ rowVerdict 1 g (m + r) (solve 1 (rowsOf 2 (take k e)) (rowsOf 2 vals)) out → x ≡ rowVerdict 1 g (m + r) (solve 1 (systemRows n s r m us eqs) (rowsOf 2 vals)) out
-  settled-as out x p = p ∙ ap (λ (x : List Row). rowVerdict 1 g (m + r) (solve 1 x (rowsOf 2 vals)) out) read-system
+  pub settled-as : (out : List ℕ) (x : Reply) → x ≡ rowVerdict co g (m + r) (solve co (rowsOf wd (take k e)) (rowsOf wd vals)) out → x ≡ rowVerdict co g (m + r) (solve co (systemRows co wd n s r m us eqs) (rowsOf wd vals)) out
+  settled-as out x p = p ∙ ap (λ (x : List Row). rowVerdict co g (m + r) (solve co x (rowsOf wd vals)) out) read-system

@@ -3,10 +3,11 @@
 --     deciding       what is left once no fault of form is found: too many unknowns, or the verdict
 --     systemRows     the equations of a descent, then those of the check
 --     Settling       what the last step needs of a descent
+--     mostWords      the words of a row with room for the most unknowns
 --     Formed         no fault of form: what these refusals leave
 use mathlib.Core.Path.{_≡_}
 use mathlib.Core.Logic.{_⊎_}
-use Prim.Native.Nat.{ℕ, _+_, _*_, _^_, _≤_}
+use Prim.Native.Nat.{ℕ, _+_, _*_, _/_, _^_, _≤_, _<_}
 use mathlib.Core.Bool.{true}
 use mathlib.Core.List.{List, [], _∷_, _++_}
 use lib.ListN.{length}
@@ -24,6 +25,7 @@ use Rattle.gf2.specs.Rows.{rowsOf}
 use Rattle.gf2.specs.Solve.{solve}
 use Rattle.model.specs.Model.{checks}
 use Rattle.ruling.specs.Values.{rowValues}
+use Rattle.descent.specs.Descending.{widest}
 
 -- the rows of `formRefusals`, of an output with this room
 unfoldable pub decodeFault : ℕ → List ℕ → ℕ → ℕ → List ℕ → ℕ → Answer
@@ -36,8 +38,14 @@ deciding n s r c w out =
     let g = unknowns n ks w in
     pick (ltb c g) (leaving out (TooMany g)) (verdict n g (equations n ks r w) (candidates n ks r w) out)
 
-unfoldable pub systemRows : ℕ → List ℕ → ℕ → ℕ → List ℕ → List ℕ → List Row
-systemRows n s r m us eqs = rows 2 m eqs ++ checks (rowValues 1 2) r (rules n s) (rows 2 (2 ^ n) us)
+-- on rows of wd words, co of them coefficients
+unfoldable pub systemRows : ℕ → ℕ → ℕ → List ℕ → ℕ → ℕ → List ℕ → List ℕ → List Row
+systemRows co wd n s r m us eqs = rows wd m eqs ++ checks (rowValues co wd) r (rules n s) (rows wd (2 ^ n) us)
+
+-- a word for each 64 unknowns, one that may be empty, and one for the constant
+unfoldable pub mostWords : ℕ
+unfolding largestCeiling
+mostWords = largestCeiling / 64 + 2
 
 pub record Formed (n : ℕ) (s : List ℕ) (r c : ℕ) (w out : List ℕ) : Type 0 where
   pub small : n ≤ largestN
@@ -50,13 +58,14 @@ pub record Formed (n : ℕ) (s : List ℕ) (r c : ℕ) (w out : List ℕ) : Type
   pub low : c ≤ largestCeiling
 
 -- what a descent leaves, with room for the check's rows and the answer
-pub record Settling (n : ℕ) (s : List ℕ) (r g m : ℕ) (us eqs vals : List ℕ) (room : ℕ) : Type 0 where
+pub record Settling (co wd n : ℕ) (s : List ℕ) (r g m : ℕ) (us eqs vals : List ℕ) (room : ℕ) : Type 0 where
   pub small : n ≤ largestN
   pub long : length s ≡ 2 ^ n * recordBytes
   pub check : (r ≡ 0) ⊎ ((r ≡ 6) ⊎ (r ≡ 11))
-  pub rows-u : length us ≡ 2 ^ n * 2
-  pub rows-v : length vals ≡ 2 ^ n * 2
-  pub rows-e : (m + r) * 2 ≤ length eqs
-  pub low : g ≤ 63
+  pub wide : co < wd
+  pub narrow : wd ≤ widest
+  pub rows-u : length us ≡ 2 ^ n * wd
+  pub rows-v : length vals ≡ 2 ^ n * wd
+  pub rows-e : (m + r) * wd ≤ length eqs
   pub roomy : 3 * 2 ^ n ≤ room
-  pub rank : (solve 1 (systemRows n s r m us eqs) (rowsOf 2 vals)) .rank ≤ g
+  pub rank : (solve co (systemRows co wd n s r m us eqs) (rowsOf wd vals)) .rank ≤ g

@@ -1,11 +1,12 @@
 // The decoder: what can be known of a word with erasures. It is total: what is faulty is refused with its number, in 01's
 // order, and a refusal leaves the output as found.
 ghost use mathlib.Core.Path.{_≡_};
-ghost use Prim.Native.Nat.{_*_, _^_, _≤_};
+ghost use Prim.Native.Nat.{_*_, _^_, _≤_, _<_};
 ghost use lib.ListN.{length};
 ghost use Rattle.meaning.specs.Limits.{largestN};
 ghost use Rattle.meaning.specs.Answers.{leaving, decoding};
-ghost use Rattle.decoder.specs.Deciding.{decodeFault, deciding, Formed};
+ghost use Rattle.descent.specs.Descending.{widest};
+ghost use Rattle.decoder.specs.Deciding.{decodeFault, deciding, mostWords, Formed};
 
 mod solving;
 
@@ -13,8 +14,8 @@ use descent::Descent;
 use meaning::Answer;
 use meaning::limits;
 
-// The words of the rows of N symbols, for the largest N: two words a row.
-const WORDS: usize = 2 * limits::POSITIONS;
+// The words of the rows of N symbols, for the largest N and the most unknowns.
+const WORDS: usize = limits::POSITIONS * (limits::LARGEST_CEILING / 64 + 2);
 
 // The fault of form that decoding is refused for: the sheet's, the word's, the output's or the ceiling's. Done where there is
 // none.
@@ -36,8 +37,10 @@ fn fault(n: usize, sheet: &[u8], r: usize, ceiling: usize, word: &[u8], room: us
     Answer::Done
 }
 
-// `decide`, on slices of N rows of two words.
+// `decide`, on slices of N rows of w words, c of them coefficients.
 fn answer(
+    c: usize,
+    w: usize,
     n: usize,
     sheet: &[u8],
     r: usize,
@@ -49,18 +52,18 @@ fn answer(
     out: &mut [u8],
 ) -> Answer
     requires { ⌜ Formed n (now sheet) r ceiling (now word) (now out) ⌝ }
-    requires { ⌜ (length (now vals) ≡ 2 ^ n * 2) × (length (now us) ≡ 2 ^ n * 2) × (length (now eqs) ≡ 2 ^ n * 2) ⌝ }
+    requires { ⌜ (c < w) × (w ≤ widest) × (ceiling ≤ 64 * c) × (length (now vals) ≡ 2 ^ n * w) × (length (now us) ≡ 2 ^ n * w) × (length (now eqs) ≡ 2 ^ n * w) ⌝ }
     ensures { λ a. ⌜ leaving (now (out .exit)) a ≡ deciding n (now (sheet .entry)) r ceiling (now (word .entry)) (now (out .entry)) ⌝ }
 {
-    match descent::descend(n, sheet, word, ceiling, 1, 2, vals, us, eqs) {
+    match descent::descend(n, sheet, word, ceiling, c, w, vals, us, eqs) {
         Descent::Misfit => Answer::BadShape,
         Descent::Over { g } => Answer::TooMany { g },
-        Descent::Done { g, m } => solving::settle(n, sheet, r, g, m, us, eqs, vals, out),
+        Descent::Done { g, m } => solving::settle(c, w, n, sheet, r, g, m, us, eqs, vals, out),
     }
 }
 
-// Answers where no fault of form is found: too many unknowns, or the verdict. The three slices have room for N rows of two
-// words, for the largest N.
+// Answers where no fault of form is found: too many unknowns, or the verdict. The rows have as many words as the unknowns of
+// this word ask for; the three slices have room for N such rows, for the largest N and the most unknowns.
 fn decide(
     n: usize,
     sheet: &[u8],
@@ -73,15 +76,22 @@ fn decide(
     out: &mut [u8],
 ) -> Answer
     requires { ⌜ Formed n (now sheet) r ceiling (now word) (now out) ⌝ }
-    requires { ⌜ (2 ^ largestN * 2 ≤ length (now vals)) × (2 ^ largestN * 2 ≤ length (now us)) × (2 ^ largestN * 2 ≤ length (now eqs)) ⌝ }
+    requires { ⌜ (2 ^ largestN * mostWords ≤ length (now vals)) × (2 ^ largestN * mostWords ≤ length (now us)) × (2 ^ largestN * mostWords ≤ length (now eqs)) ⌝ }
     ensures { λ a. ⌜ leaving (now (out .exit)) a ≡ deciding n (now (sheet .entry)) r ceiling (now (word .entry)) (now (out .entry)) ⌝ }
 {
-    let k = 2 * word.len();
+    let g = counting::unknowns(n, sheet, word);
+    if ceiling < g {
+        return Answer::TooMany { g };
+    }
+    let c = g / 64 + 1;
+    let k = word.len() * (c + 1);
     answer(
+        c,
+        c + 1,
         n,
         sheet,
         r,
-        ceiling,
+        g,
         word,
         &mut vals[0..k],
         &mut us[0..k],
@@ -94,7 +104,7 @@ fn decide(
 // Answers Unique (0), Ambiguous (1) or Inconsistent (2), with g unknowns, m equations and dimension d. Unique and Ambiguous
 // write 3N bytes: the settled strip (2 where candidates differ), the first candidate and the last; later bytes are as found.
 // Refuses (as form::check_sheet; 14: the word is not N long; 15: the first symbol above 2; 16: the output is shorter
-// than 3N; 17: the ceiling is above 63; 18: g is above the ceiling). Inconsistent and refusals leave the output as found.
+// than 3N; 17: the ceiling is above 255; 18: g is above the ceiling). Inconsistent and refusals leave the output as found.
 pub fn decode(
     n: usize,
     sheet: &[u8],

@@ -1,6 +1,6 @@
-// From the equations to the answer.
+// From the equations to the answer, on rows of w words, c of them coefficients.
 ghost use mathlib.Core.Path.{_≡_};
-ghost use Prim.Native.Nat.{_+_, _*_, _/_, _≤_};
+ghost use Prim.Native.Nat.{_+_, _*_, _/_, _≤_, _<_};
 ghost use lib.ListN.{length};
 ghost use Rattle.gf2.specs.Rows.{rowsOf};
 ghost use Rattle.gf2.specs.Solve.{solve};
@@ -10,20 +10,30 @@ ghost use Rattle.decoder.specs.Deciding.{systemRows, Settling};
 use gf2::Outcome;
 use meaning::Answer;
 
-// Solves the equations, of rows of two words, and answers.
-fn finish(g: usize, m: usize, eqs: &mut [u64], vals: &mut [u64], out: &mut [u8]) -> Answer
-    requires { ⌜ (g ≤ 63) × (length (now vals) ≡ 2 * (length (now vals) / 2)) × (3 * (length (now vals) / 2) ≤ length (now out)) ⌝ }
-    requires { ⌜ (length (now eqs) ≡ 2 * (length (now eqs) / 2)) × ((solve 1 (rowsOf 2 (now eqs)) (rowsOf 2 (now vals))) .rank ≤ g) ⌝ }
-    ensures { λ a. ⌜ leaving (now (out .exit)) a ≡ rowVerdict 1 g m (solve 1 (rowsOf 2 (now (eqs .entry))) (rowsOf 2 (now (vals .entry)))) (now (out .entry)) ⌝ }
+// Solves the equations and answers.
+fn finish(
+    c: usize,
+    w: usize,
+    g: usize,
+    m: usize,
+    eqs: &mut [u64],
+    vals: &mut [u64],
+    out: &mut [u8],
+) -> Answer
+    requires { ⌜ (c < w) × (length (now vals) ≡ length (now vals) / w * w) × (3 * (length (now vals) / w) ≤ length (now out)) ⌝ }
+    requires { ⌜ (length (now eqs) ≡ length (now eqs) / w * w) × ((solve c (rowsOf w (now eqs)) (rowsOf w (now vals))) .rank ≤ g) ⌝ }
+    ensures { λ a. ⌜ leaving (now (out .exit)) a ≡ rowVerdict c g m (solve c (rowsOf w (now (eqs .entry))) (rowsOf w (now (vals .entry)))) (now (out .entry)) ⌝ }
 {
-    match gf2::eliminate(eqs, vals, 1, 2) {
+    match gf2::eliminate(eqs, vals, c, w) {
         Outcome::Misfit => Answer::BadShape,
-        Outcome::Rank(rank) => reading::conclude(g, m, rank, eqs, vals, out),
+        Outcome::Rank(rank) => reading::conclude(c, w, g, m, rank, eqs, vals, out),
     }
 }
 
 // Appends the check's equations to the m of a descent, solves them all and answers.
 pub fn settle(
+    c: usize,
+    w: usize,
     n: usize,
     sheet: &[u8],
     r: usize,
@@ -34,10 +44,10 @@ pub fn settle(
     vals: &mut [u64],
     out: &mut [u8],
 ) -> Answer
-    requires { ⌜ Settling n (now sheet) r g m (now us) (now eqs) (now vals) (length (now out)) ⌝ }
-    ensures { λ a. ⌜ leaving (now (out .exit)) a ≡ rowVerdict 1 g (m + r) (solve 1 (systemRows n (now (sheet .entry)) r m (now (us .entry)) (now (eqs .entry))) (rowsOf 2 (now (vals .entry)))) (now (out .entry)) ⌝ }
+    requires { ⌜ Settling c w n (now sheet) r g m (now us) (now eqs) (now vals) (length (now out)) ⌝ }
+    ensures { λ a. ⌜ leaving (now (out .exit)) a ≡ rowVerdict c g (m + r) (solve c (systemRows c w n (now (sheet .entry)) r m (now (us .entry)) (now (eqs .entry))) (rowsOf w (now (vals .entry)))) (now (out .entry)) ⌝ }
 {
-    checks::check_rows(n, sheet, r, 1, 2, us, m, eqs);
+    checks::check_rows(n, sheet, r, c, w, us, m, eqs);
     let q = m + r;
-    finish(g, q, &mut eqs[0..2 * q], vals, out)
+    finish(c, w, g, q, &mut eqs[0..q * w], vals, out)
 }

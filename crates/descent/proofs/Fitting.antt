@@ -21,9 +21,9 @@ use Rattle.descent.specs.Descending.{widest, roomy, filled, fitting, Rea
 pub whole-fits : (n size w : ℕ) → n ≤ largestN → w ≤ widest → size ≡ 2 ^ n → Fits w64 (size * w)
 unfolding largestN widest
 whole-fits n size w h k e =
-    let p = pow-mono {i = n} {j = 7} h in
-    let q : size ≤ 128 = omega arith in
-    let r : size * w ≤ 128 * w = mul-le-mul-right w q in
+    let p = pow-mono {i = n} {j = largestN} h in
+    let q : size ≤ 2 ^ largestN = omega arith in
+    let r : size * w ≤ 2 ^ largestN * w = mul-le-mul-right w q in
     omega arith
 
 module _ (most c w : ℕ) where

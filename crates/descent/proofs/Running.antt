@@ -85,8 +85,7 @@ module _ (c w n : ℕ) (sheet word : List ℕ) where
 -- ---- what fits together
 
 module _ {n s d c w v u e : ℕ} (r : Ready n s d c w v u e) where
-  pub ready-positions : d ≤ 128
-  unfolding maskBytes
+  pub ready-positions : d ≤ 8 * maskBytes
   ready-positions = positions n d (r .small) (r .symbols)
 
 module _ (n c w v u e : ℕ) (sheet word marks : List ℕ) (r : Ready n (length sheet) (length word) c w v u e) (few : unknowns n (rules n sheet) word ≤ 64 * c) (lm : length marks ≡ length word) where

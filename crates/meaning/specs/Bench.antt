@@ -1,10 +1,11 @@
 -- 01's starred bench examples, E1 to E12 and the row with r = 6 (worked out anew for W-204), as one table: `rows`. That each `holds` is proved in proofs/Bench.
 -- Each row names the sheet's bytes, the payload or the word, and the answer in full: the five numbers and every byte of a buffer that held 165.
-use Prim.Native.Nat.{ℕ, zero, suc, _/_, _%_}
+use Prim.Native.Nat.{ℕ, zero, suc, _*_, _-_, _/_, _%_}
 use mathlib.Core.Bool.{Bool, true, false, _&&_}
 use mathlib.Core.List.{List, [], _∷_, _++_}
 use lib.ListN.{length, drop, replicate}
 use lib.Dec.{eqb}
+use Rattle.meaning.specs.Limits.{maskBytes, recordBytes}
 use Rattle.meaning.specs.Answers.{Reply, numbersOf, encoding, decoding}
 
 -- the decimal digits of a number, k of them
@@ -16,18 +17,18 @@ digits (suc k) n l = digits k (n / 10) (n % 10 ∷ l)
 
 -- a free record, a plain frozen bit, and one that names position 3
 abbrev pub freeRecord : List ℕ
-freeRecord = replicate 20 0
+freeRecord = replicate recordBytes 0
 
 abbrev pub plainRecord : List ℕ
-plainRecord = 1 ∷ replicate 19 0
+plainRecord = 1 ∷ replicate (recordBytes - 1) 0
 
 -- sheet E: u_0 = u_1 = u_2 = 0, u_4 = u_3
 abbrev pub sheetE : List ℕ
-sheetE = plainRecord ++ plainRecord ++ plainRecord ++ freeRecord ++ (1 ∷ 0 ∷ 0 ∷ 0 ∷ 8 ∷ replicate 15 0) ++ freeRecord ++ freeRecord ++ freeRecord
+sheetE = plainRecord ++ plainRecord ++ plainRecord ++ freeRecord ++ (1 ∷ 0 ∷ 0 ∷ 0 ∷ 8 ∷ replicate (maskBytes - 1) 0) ++ freeRecord ++ freeRecord ++ freeRecord
 
 -- u_0 = 0, others free
 abbrev pub sheet0 : List ℕ
-sheet0 = plainRecord ++ replicate 140 0
+sheet0 = plainRecord ++ replicate (7 * recordBytes) 0
 
 -- ---- the rows
 

@@ -12,20 +12,20 @@ use mathlib.Core.List.{List}
 use lib.ListN.{replicate}
 
 unfoldable pub largestN : ℕ
-largestN = 7
+largestN = 9
 
 unfoldable pub maskBytes : ℕ
-maskBytes = 16
+maskBytes = 64
 
 unfoldable pub recordBytes : ℕ
 unfolding maskBytes
 recordBytes = 4 + maskBytes
 
 unfoldable pub largestCeiling : ℕ
-largestCeiling = 63
+largestCeiling = 255
 
 unfoldable pub stripWidth : ℕ
-stripWidth = 128
+stripWidth = 512
 
 unfoldable pub leads : ℕ → List Bool
 leads r = replicate r true

@@ -1,13 +1,14 @@
 -- The stream: one answer record for each word of the input, in its place.
---     header a             the first 8 bytes of an answer record
+--     twoBytes x           a number as two bytes, low first
+--     header a             the first 16 bytes of an answer record
 --     answerRecord         the record of one word
 --     sizeOf s             the n of a sheet, from its length
 --     records              all records that an input gets
 --     streaming            what the call answers and leaves in its buffer
 -- `s` is the sheet, `ch` the choice (two bytes: r, ceiling), `input` the words end to end.
-use Prim.Native.Nat.{ℕ, suc, _+_, _*_, _-_, _/_, _^_}
+use Prim.Native.Nat.{ℕ, suc, _+_, _*_, _-_, _/_, _%_, _^_}
 use mathlib.Core.Bool.{not}
-use mathlib.Core.List.{List, [], _∷_, _++_, flatten}
+use mathlib.Core.List.{List, [], _∷_, _++_, map, flatten}
 use lib.ListN.{length, take, drop, getD, replicate}
 use lib.Dec.{eqb, ltb}
 use Rattle.bits.specs.Vectors.{pick, tab, firstPlace}
@@ -18,14 +19,18 @@ use Rattle.meaning.specs.declared.Answer.the-variants.{Done, BadShape, B
 
 -- ---- one record
 
--- code, place, g, m, d, three zeros
+-- two bytes, low first
+abbrev pub twoBytes : ℕ → List ℕ
+twoBytes x = x % 256 ∷ x / 256 % 256 ∷ []
+
+-- code, place, g, m, d, two bytes each; the rest zeros
 abbrev pub header : Answer → List ℕ
-header a = numbersOf a ++ (0 ∷ 0 ∷ 0 ∷ [])
+header a = flatten (map twoBytes (numbersOf a)) ++ replicate 6 0
 
 -- its bytes: the header, then three strips
 unfoldable pub answerBytes : ℕ
 unfolding stripWidth
-answerBytes = 8 + 3 * stripWidth
+answerBytes = 16 + 3 * stripWidth
 
 -- a strip, the places past N filled with 255
 abbrev pub padded : List ℕ → List ℕ

@@ -2,10 +2,10 @@
 // that one that is left behind is refused.
 
 // N = 2 to the n symbols, n from 0 to this.
-pub const LARGEST_N: usize = 7;
+pub const LARGEST_N: usize = 9;
 
 // Bytes of a record's mask.
-pub const MASK: usize = 16;
+pub const MASK: usize = 64;
 
 // Bytes of a record of the sheet.
 pub const RECORD: usize = 4 + MASK;
@@ -14,13 +14,13 @@ pub const RECORD: usize = 4 + MASK;
 pub const POSITIONS: usize = 8 * MASK;
 
 // The ceiling on unknowns is 0 to this.
-pub const LARGEST_CEILING: usize = 63;
+pub const LARGEST_CEILING: usize = 255;
 
 // Bytes of a strip of an answer record.
-pub const WIDTH: usize = 128;
+pub const WIDTH: usize = 512;
 
 // Bytes of an answer record before its strips.
-pub const HEAD: usize = 8;
+pub const HEAD: usize = 16;
 
 // Bytes of the strips of an answer record.
 pub const STRIPS: usize = 3 * WIDTH;

@@ -1,6 +1,6 @@
 -- What the loops keep.
 --     Filling f m l i, and its steps     the first i of m places of l hold f 0, f 1, ..: no place, one place more, all places
---     Passing l m i, and its steps       none of the first i of m equations contradicts itself
+--     Passing c w l m i, and its steps   none of the first i of m equations contradicts itself
 use mathlib.Core.Path.{_≡_, refl, sym, ap, ap₂, _∙_}
 use Prim.Native.Nat.{ℕ, suc, _+_, _-_, _≤_, _<_}
 use native.Mathlib.Omega.{arith}
@@ -12,7 +12,8 @@ use lib.ListN.{length, take, set, length-set}
 use lib.Seq.{take-suc-set, take-all}
 use Rattle.bits.specs.Vectors.{tab, all}
 use Rattle.bits.proofs.Tests.{tab-snoc, tab-ext}
-use Rattle.reading.specs.Words.{rowAt, agreeable, sound}
+use Rattle.bits.specs.Rows.{row}
+use Rattle.reading.specs.Words.{agreeable, sound}
 
 pub record Filling (f : ℕ → ℕ) (m : ℕ) (l : List ℕ) (i : ℕ) : Type 0 where
   pub some : i ≤ m
@@ -42,32 +43,32 @@ module _ {f : ℕ → ℕ} {m : ℕ} {l : List ℕ} {i : ℕ} (p : Filling f m l
 -- ---- the equations, one after the other
 
 -- what is left to look at decides
-pub record Passing (l : List ℕ) (m i : ℕ) : Type 0 where
+pub record Passing (c w : ℕ) (l : List ℕ) (m i : ℕ) : Type 0 where
   pub some : i ≤ m
-  pub left : all agreeable (tab (m - i) (λ (k : ℕ). rowAt l (i + k))) ≡ sound l m
+  pub left : all (agreeable c) (tab (m - i) (λ (k : ℕ). row w l (i + k))) ≡ sound c w l m
 
-pub passing-none : (l : List ℕ) (m : ℕ) → Passing l m 0
+pub passing-none : (c w : ℕ) (l : List ℕ) (m : ℕ) → Passing c w l m 0
 unfolding sound
-passing-none l m = record { some = omega arith; left = let e : m - 0 ≡ m = omega arith in rw e (ap (all agreeable) (tab-ext m (λ (k : ℕ). rowAt l (0 + k)) (rowAt l) (λ k. ap (rowAt l) (zero-add k)))) }
+passing-none c w l m = record { some = omega arith; left = let e : m - 0 ≡ m = omega arith in rw e (ap (all (agreeable c)) (tab-ext m (λ (k : ℕ). row w l (0 + k)) (row w l) (λ k. ap (row w l) (zero-add k)))) }
 
-module _ {l : List ℕ} {m i : ℕ} (p : Passing l m i) where
-  ahead : i < m → agreeable (rowAt l i) && all agreeable (tab (m - (i + 1)) (λ (k : ℕ). rowAt l (i + 1 + k))) ≡ sound l m
+module _ {c w : ℕ} {l : List ℕ} {m i : ℕ} (p : Passing c w l m i) where
+  ahead : i < m → agreeable c (row w l i) && all (agreeable c) (tab (m - (i + 1)) (λ (k : ℕ). row w l (i + 1 + k))) ≡ sound c w l m
   ahead h =
       let e : m - i ≡ suc (m - (i + 1)) = omega arith in
       let s : (k : ℕ) → i + suc k ≡ i + 1 + k = λ k. omega arith in
       let z : i + 0 ≡ i = omega arith in
-      ap₂ _&&_ (ap (λ (j : ℕ). agreeable (rowAt l j)) (sym z)) (ap (all agreeable) (sym (tab-ext (m - (i + 1)) (λ (k : ℕ). rowAt l (i + suc k)) (λ (k : ℕ). rowAt l (i + 1 + k)) (λ k. ap (rowAt l) (s k)))))
-      ∙ ap (λ (j : ℕ). all agreeable (tab j (λ (k : ℕ). rowAt l (i + k)))) (sym e) ∙ p .left
+      ap₂ _&&_ (ap (λ (j : ℕ). agreeable c (row w l j)) (sym z)) (ap (all (agreeable c)) (sym (tab-ext (m - (i + 1)) (λ (k : ℕ). row w l (i + suc k)) (λ (k : ℕ). row w l (i + 1 + k)) (λ k. ap (row w l) (s k)))))
+      ∙ ap (λ (j : ℕ). all (agreeable c) (tab j (λ (k : ℕ). row w l (i + k)))) (sym e) ∙ p .left
 
-  pub passing-next : {b : Bool} → i < m → b ≡ agreeable (rowAt l i) → b ≡ true → Passing l m (i + 1)
+  pub passing-next : {b : Bool} → i < m → b ≡ agreeable c (row w l i) → b ≡ true → Passing c w l m (i + 1)
   passing-next {b} h e t =
-      record { some = omega arith; left = ap (λ (c : Bool). c && all agreeable (tab (m - (i + 1)) (λ (k : ℕ). rowAt l (i + 1 + k)))) (sym t ∙ e) ∙ ahead h }
+      record { some = omega arith; left = ap (λ (a : Bool). a && all (agreeable c) (tab (m - (i + 1)) (λ (k : ℕ). row w l (i + 1 + k)))) (sym t ∙ e) ∙ ahead h }
 
-  pub passing-stops : {b : Bool} {n : ℕ} → m ≡ n → i < m → b ≡ agreeable (rowAt l i) → b ≡ false → false ≡ sound l n
-  passing-stops {b} {n} k h e t = ap (λ (c : Bool). c && all agreeable (tab (m - (i + 1)) (λ (k : ℕ). rowAt l (i + 1 + k)))) (sym t ∙ e) ∙ ahead h ∙ ap (sound l) k
+  pub passing-stops : {b : Bool} {n : ℕ} → m ≡ n → i < m → b ≡ agreeable c (row w l i) → b ≡ false → false ≡ sound c w l n
+  passing-stops {b} {n} k h e t = ap (λ (a : Bool). a && all (agreeable c) (tab (m - (i + 1)) (λ (k : ℕ). row w l (i + 1 + k)))) (sym t ∙ e) ∙ ahead h ∙ ap (sound c w l) k
 
-  pub passing-all : {n : ℕ} → m ≡ n → m ≤ i → true ≡ sound l n
+  pub passing-all : {n : ℕ} → m ≡ n → m ≤ i → true ≡ sound c w l n
   passing-all {n} k h =
       let s = p .some in
       let e : 0 ≡ m - i = omega arith in
-      ap (λ (j : ℕ). all agreeable (tab j (λ (k : ℕ). rowAt l (i + k)))) e ∙ p .left ∙ ap (sound l) k
+      ap (λ (j : ℕ). all (agreeable c) (tab j (λ (k : ℕ). row w l (i + k)))) e ∙ p .left ∙ ap (sound c w l) k

@@ -14,26 +14,26 @@ pub run-room : (s ch : List ℕ) (run room : ℕ) → Ready s ch run room → (i
 unfolding answerBytes stripWidth
 run-room s ch run room ok input h =
     let e : roundedUp (length input) (2 ^ sizeOf s) ≡ length (records s ch input) = counted s ch input (sizeOf s) refl (ok .small) (ok .two) (2 ^ sizeOf s) refl _ refl in
-    let l : roundedUp (length input) (2 ^ sizeOf s) ≤ 128 = rounded-few (length input) (2 ^ sizeOf s) 128 (omega (arith, pow-pos (sizeOf s))) (omega (arith, ok .words)) in
+    let l : roundedUp (length input) (2 ^ sizeOf s) ≤ 32 = rounded-few (length input) (2 ^ sizeOf s) 32 (omega (arith, pow-pos (sizeOf s))) (omega (arith, ok .words)) in
     omega (arith, e, l, ok .roomy)
 
 module _ (s ch input : List ℕ) (n : ℕ) (e : n ≡ sizeOf s) where
-  pub shape-room : (room : ℕ) → room ≡ 50176 → largestN < n → length (records s ch input) * answerBytes ≤ room
+  pub shape-room : (room : ℕ) → room ≡ 49664 → largestN < n → length (records s ch input) * answerBytes ≤ room
   unfolding answerBytes stripWidth
   shape-room room q h = omega (arith, one-shape s ch input n e h)
 
-  pub choice-room : (room : ℕ) → room ≡ 50176 → n ≤ largestN → (length ch ≡ 2 → ⊥) → length (records s ch input) * answerBytes ≤ room
+  pub choice-room : (room : ℕ) → room ≡ 49664 → n ≤ largestN → (length ch ≡ 2 → ⊥) → length (records s ch input) * answerBytes ≤ room
   unfolding answerBytes stripWidth
   choice-room room r h q = omega (arith, one-choice s ch input n e h q)
 
-  pub ready : n ≤ largestN → length ch ≡ 2 → (run : ℕ) → run ≡ 128 * 2 ^ n → Ready s ch run 50176
+  pub ready : n ≤ largestN → length ch ≡ 2 → (run : ℕ) → run ≡ 32 * 2 ^ n → Ready s ch run 49664
   unfolding answerBytes stripWidth
-  ready h q run er = record { small = rw (← e) h; two = q; words = er ∙ ap (λ (k : ℕ). 128 * 2 ^ k) e; roomy = omega arith }
+  ready h q run er = record { small = rw (← e) h; two = q; words = er ∙ ap (λ (k : ℕ). 32 * 2 ^ k) e; roomy = omega arith }
 
--- 128 words, as the code has them
-pub run-is : (n : ℕ) → n ≤ largestN → (128 * 2 ^ n % 2 ^ 64 ≡ 128 * 2 ^ n) × (128 * 2 ^ n ≤ 16384)
+-- 32 words, as the code has them
+pub run-is : (n : ℕ) → n ≤ largestN → (32 * 2 ^ n % 2 ^ 64 ≡ 32 * 2 ^ n) × (32 * 2 ^ n ≤ 16384)
 unfolding largestN
-run-is n h = let l : 2 ^ n ≤ 128 = omega (arith, pow-mono h) in (omega (arith, l), omega (arith, l))
+run-is n h = let l : 2 ^ n ≤ 512 = omega (arith, pow-mono h) in (omega (arith, l), omega (arith, l))
 
 -- the room keeps its size
 pub ready-same : (s ch : List ℕ) (run run′ room room′ : ℕ) → run′ ≡ run → room′ ≡ room → Ready s ch run room → Ready s ch run′ room′

@@ -1,5 +1,5 @@
 // Answers a stream of words. Reads sheet.bin and choice.bin in the folder that it is run in, and words of N bytes on standard
-// input; writes a record of 392 bytes for each to standard output, as 01 says. The answers are those of `stream::answer`, by
+// input; writes a record of 1552 bytes for each to standard output, as 01 says. The answers are those of `stream::answer`, by
 // runs of whole words and then the rest; that this gives the same bytes is a theorem (stream/proofs/Promise, `cut`).
 ghost use mathlib.Core.Path.{_≡_};
 ghost use Prim.Native.Nat.{_*_, _^_, _≤_};
@@ -18,7 +18,7 @@ const SHEET: usize = limits::RECORD * limits::POSITIONS + 1;
 const CHOICE: usize = 3;
 
 // The words of a run.
-const RUN: usize = 128;
+const RUN: usize = 32;
 
 // The bytes of the longest run.
 const INPUT: usize = RUN * limits::POSITIONS;
@@ -91,7 +91,7 @@ fn turns(sheet: &[u8], choice: &[u8], input: &mut [u8], out: &mut [u8])
 
 // Answers the words on standard input; where the sheet or the choice has a wrong length, writes one record and reads none.
 fn serve(sheet: &[u8], choice: &[u8], input: &mut [u8], out: &mut [u8])
-    requires { ⌜ (length (now input) ≡ 16384) × (length (now out) ≡ 50176) ⌝ }
+    requires { ⌜ (length (now input) ≡ 16384) × (length (now out) ≡ 49664) ⌝ }
 {
     let n = stream::size(sheet);
     if limits::LARGEST_N < n {

@@ -20,37 +20,45 @@ use Rattle.model.specs.Model.{ruleValue}
 use Rattle.ruling.specs.Values.{rowValues}
 use Rattle.ruling.specs.Ruling.{fitting, ruled}
 
+no-record : (sheet at : ℕ) → sheet / recordBytes ≤ at → sheet < (at + 1) * recordBytes
+unfolding recordBytes maskBytes
+no-record sheet at h = omega arith
+
+a-record : (sheet at : ℕ) → at < sheet / recordBytes → (at + 1) * recordBytes ≤ sheet
+unfolding recordBytes maskBytes
+a-record sheet at h = omega arith
+
 module _ (d to us sheet at c w : ℕ) where
   pub narrow : w ≤ c → false ≡ fitting d to us sheet at c w
   unfolding fitting
   narrow p = rw (le-ltb c w p)
 
   module _ (p : c < w) where
-    pub far : 128 ≤ at → false ≡ fitting d to us sheet at c w
-    unfolding fitting maskBytes
-    far q = rw (lt-ltb c w p, le-ltb at 128 q)
+    pub far : 8 * maskBytes ≤ at → false ≡ fitting d to us sheet at c w
+    unfolding fitting
+    far q = rw (lt-ltb c w p, le-ltb at (8 * maskBytes) q)
 
-    module _ (q : at < 128) where
-      pub short : sheet / 20 ≤ at → false ≡ fitting d to us sheet at c w
-      unfolding fitting maskBytes recordBytes
-      short r = rw (lt-ltb c w p, lt-ltb at 128 q, lt-leb ((at + 1) * 20) sheet (omega arith))
+    module _ (q : at < 8 * maskBytes) where
+      pub short : sheet / recordBytes ≤ at → false ≡ fitting d to us sheet at c w
+      unfolding fitting
+      short r = rw (lt-ltb c w p, lt-ltb at (8 * maskBytes) q, lt-leb ((at + 1) * recordBytes) sheet (no-record sheet at r))
 
-      module _ (r : at < sheet / 20) where
+      module _ (r : at < sheet / recordBytes) where
         pub few : us / w < at → false ≡ fitting d to us sheet at c w
-        unfolding fitting maskBytes recordBytes
-        few s = rw (lt-ltb c w p, lt-ltb at 128 q, le-leb ((at + 1) * 20) sheet (omega arith), lt-leb (at * w) us (div-lt-iff-lt-mul {k = w} {x = us} {y = at} (omega arith) .0 s))
+        unfolding fitting
+        few s = rw (lt-ltb c w p, lt-ltb at (8 * maskBytes) q, le-leb ((at + 1) * recordBytes) sheet (a-record sheet at r), lt-leb (at * w) us (div-lt-iff-lt-mul {k = w} {x = us} {y = at} (omega arith) .0 s))
 
         module _ (s : at ≤ us / w) where
           there : at * w ≤ us
           there = le-div-iff-mul-le {k = w} {x = at} {y = us} (omega arith) .0 s
 
           pub low : d < w → false ≡ fitting d to us sheet at c w
-          unfolding fitting maskBytes recordBytes
-          low t = rw (lt-ltb c w p, lt-ltb at 128 q, le-leb ((at + 1) * 20) sheet (omega arith), le-leb (at * w) us there, lt-leb (to + w) d (omega arith))
+          unfolding fitting
+          low t = rw (lt-ltb c w p, lt-ltb at (8 * maskBytes) q, le-leb ((at + 1) * recordBytes) sheet (a-record sheet at r), le-leb (at * w) us there, lt-leb (to + w) d (omega arith))
 
           pub last : w ≤ d → leb to (d - w) ≡ fitting d to us sheet at c w
-          unfolding fitting maskBytes recordBytes
-          last t = rw (lt-ltb c w p, lt-ltb at 128 q, le-leb ((at + 1) * 20) sheet (omega arith), le-leb (at * w) us there) (go (leb to (d - w)) refl)
+          unfolding fitting
+          last t = rw (lt-ltb c w p, lt-ltb at (8 * maskBytes) q, le-leb ((at + 1) * recordBytes) sheet (a-record sheet at r), le-leb (at * w) us there) (go (leb to (d - w)) refl)
             where
               go : (b : Bool) → leb to (d - w) ≡ b → b ≡ leb (to + w) d
               go true e = let l = leb-true to (d - w) e in sym (le-leb (to + w) d (omega arith))

@@ -29,7 +29,7 @@ pub fn none() -> Tally {
 }
 
 // With one record more, of this code.
-pub fn counted(before: Tally, code: u8) -> Tally {
+pub fn counted(before: Tally, code: u64) -> Tally {
     let mut t = before;
     t.records = more(t.records);
     match code {

@@ -50,9 +50,9 @@ fn digits(strip: &[u8], text: &mut [u8]) -> usize
     k
 }
 
-// Writes the digits of a strip of 128 bytes: those before its first 255, the places below N.
+// Writes the digits of a strip of 512 bytes: those before its first 255, the places below N.
 pub fn strip(s: &[u8]) -> bool
-    requires { ⌜ length (now s) ≡ 128 ⌝ }
+    requires { ⌜ length (now s) ≡ 512 ⌝ }
 {
     let mut text = [0u8; limits::WIDTH];
     let k = digits(s, &mut text);

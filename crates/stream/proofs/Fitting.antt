@@ -1,7 +1,7 @@
 -- What decoding answers fits a record.
 --     by-rows              a fact of whatever a table of refusals gives
 --     keeps-length         decoding leaves a buffer of the same length
---     fits-a-byte          each of its five numbers is below 256
+--     fits-two-bytes       each of its five numbers is below 65536
 --     numbers-five         there are five
 use mathlib.Core.Path.{_≡_, refl, sym, ap, _∙_}
 use mathlib.Core.Logic.{_⊎_, inl, inr}
@@ -118,18 +118,18 @@ closed-few (frozen c m ∷ ks) (true ∷ o) = omega (arith, closed-few ks o)
 closed-few (frozen c m ∷ ks) (false ∷ o) = omega (arith, closed-few ks o)
 
 module _ (n : ℕ) (h : n ≤ largestN) where
-  unknowns-few : (s w : List ℕ) → unknowns n (rules n s) w < 256
+  unknowns-few : (s w : List ℕ) → unknowns n (rules n s) w < 65536
   unfolding unknowns
   unknowns-few s w = omega (arith, open-few (rules n s) (openAll n w), length-rules n s, size-low n h)
 
-  equations-few : (s w : List ℕ) (r : ℕ) → (r ≡ 0) ⊎ ((r ≡ 6) ⊎ (r ≡ 11)) → equations n (rules n s) r w < 256
+  equations-few : (s w : List ℕ) (r : ℕ) → (r ≡ 0) ⊎ ((r ≡ 6) ⊎ (r ≡ 11)) → equations n (rules n s) r w < 65536
   unfolding equations
   equations-few s w r c = go c
     where
       l : ones (closedFrozen (rules n s) (openAll n w)) ≤ length (rules n s)
       l = closed-few (rules n s) (openAll n w)
 
-      go : (r ≡ 0) ⊎ ((r ≡ 6) ⊎ (r ≡ 11)) → ones (closedFrozen (rules n s) (openAll n w)) + r < 256
+      go : (r ≡ 0) ⊎ ((r ≡ 6) ⊎ (r ≡ 11)) → ones (closedFrozen (rules n s) (openAll n w)) + r < 65536
       go (inl e) = omega (arith, l, length-rules n s, size-low n h)
       go (inr (inl e)) = omega (arith, l, length-rules n s, size-low n h)
       go (inr (inr e)) = omega (arith, l, length-rules n s, size-low n h)
@@ -137,20 +137,20 @@ module _ (n : ℕ) (h : n ≤ largestN) where
   verdict-small : (s w out : List ℕ) (r : ℕ) → Good n s r → (cs : List (List Bool)) → (cs ≡ candidates n (rules n s) r w)
       → Small ((verdict n (unknowns n (rules n s) w) (equations n (rules n s) r w) cs out) .answer)
   unfolding verdict small
-  verdict-small s w out r ok [] e = rw (lt-ltb _ 256 (unknowns-few s w), lt-ltb _ 256 (equations-few s w r (ok .check)))
-  verdict-small s w out r ok (x ∷ []) e = rw (lt-ltb _ 256 (unknowns-few s w), lt-ltb _ 256 (equations-few s w r (ok .check)))
+  verdict-small s w out r ok [] e = rw (lt-ltb _ 65536 (unknowns-few s w), lt-ltb _ 65536 (equations-few s w r (ok .check)))
+  verdict-small s w out r ok (x ∷ []) e = rw (lt-ltb _ 65536 (unknowns-few s w), lt-ltb _ 65536 (equations-few s w r (ok .check)))
   verdict-small s w out r ok (x ∷ y ∷ cs) e =
       let l : length (candidates n (rules n s) r w) ≡ 2 ^ dimension (candidates n (rules n s) r w) = dimension-is n (rules n s) r w (omega (arith, ap length (sym e))) in
       let d : dimension (x ∷ y ∷ cs) ≤ unknowns n (rules n s) w = rw e (d-le-g n (rules n s) r w _ (length-rules n s) (ok .ordered) l) in
-      rw (lt-ltb _ 256 (unknowns-few s w), lt-ltb _ 256 (equations-few s w r (ok .check)), lt-ltb (dimension (x ∷ y ∷ cs)) 256 (omega (arith, d, unknowns-few s w)))
+      rw (lt-ltb _ 65536 (unknowns-few s w), lt-ltb _ 65536 (equations-few s w r (ok .check)), lt-ltb (dimension (x ∷ y ∷ cs)) 65536 (omega (arith, d, unknowns-few s w)))
 
-  pub fits-a-byte : (s : List ℕ) (r c : ℕ) (w out : List ℕ) → Small ((decoding n s r c w out) .answer)
+  pub fits-two-bytes : (s : List ℕ) (r c : ℕ) (w out : List ℕ) → Small ((decoding n s r c w out) .answer)
   unfolding decoding decodeRefusals formRefusals sheetRefusals wordRefusals small
-  fits-a-byte s r c w out =
+  fits-two-bytes s r c w out =
       by-rows (λ (t : Reply). Small (t .answer)) out (verdict n (unknowns n (rules n s) w) (equations n (rules n s) r w) (candidates n (rules n s) r w) out) (decodeRefusals n s r c w out) (
         λ _. refl,
         λ a. (
-          λ e. rw (lt-ltb (badRecord n s) 256 (omega (arith, ltb-true (badRecord n s) (2 ^ n) e, size-low n h))),
+          λ e. rw (lt-ltb (badRecord n s) 65536 (omega (arith, ltb-true (badRecord n s) (2 ^ n) e, size-low n h))),
           λ b. (
             λ _. refl,
             λ k. (
@@ -158,13 +158,13 @@ module _ (n : ℕ) (h : n ≤ largestN) where
               λ d. (
                 λ _. refl,
                 λ l. (
-                  λ e. rw (lt-ltb (firstPlace (ltb 2) w) 256 (omega (arith, ltb-true (firstPlace (ltb 2) w) (length w) e, eqb-true (length w) (2 ^ n) (not-false _ l), size-low n h))),
+                  λ e. rw (lt-ltb (firstPlace (ltb 2) w) 65536 (omega (arith, ltb-true (firstPlace (ltb 2) w) (length w) e, eqb-true (length w) (2 ^ n) (not-false _ l), size-low n h))),
                   λ _. (
                     λ _. refl,
                     λ _. (
                       λ _. refl,
                       λ _. (
-                        λ _. rw (lt-ltb (unknowns n (rules n s) w) 256 (unknowns-few s w)),
+                        λ _. rw (lt-ltb (unknowns n (rules n s) w) 65536 (unknowns-few s w)),
                         λ _. verdict-small s w out r (good n s r (rw (a, b, k, d))) (candidates n (rules n s) r w) refl,
                       ),
                     ),

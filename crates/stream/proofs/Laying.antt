@@ -1,5 +1,5 @@
 -- A record in the parts that the code writes.
---     small-at, headed           the five numbers as bytes, and three zeros behind them
+--     headed, header-long        the five numbers as two bytes each, and six zeros behind them
 --     drop-blank, take-blank     blank bytes past the first, and the first
 --     laid-one .. laid-all       the strips, one after the other
 --     put-whole                  a record: its numbers, then its strips
@@ -8,21 +8,19 @@ use mathlib.Core.Path.{_≡_, refl, sym, ap, ap₂, subst, _∙_}
 use Prim.Native.Nat.{ℕ, zero, suc, _+_, _-_, _*_, _^_, _≤_, _<_}
 use native.Mathlib.Omega.{arith}
 use lib.Pow.{pow-mono}
-use mathlib.Core.List.{List, [], _∷_, _++_, append-assoc, append-nil}
+use mathlib.Core.List.{List, [], _∷_, _++_, map, flatten, append-assoc, append-nil}
 use lib.ListN.{length, take, drop, getD, replicate, length-append, length-take, length-drop, length-replicate}
 use lib.Seq.{take-all, drop-at, take-length}
-use lib.Dec.{ltb}
-use borrow.Author.Tests.{ltb-true}
 use borrow.Rule.Slice.PartMut.{putMid, postOf}
 use Rattle.bits.specs.Vectors.{tab}
-use Rattle.bits.proofs.Tests.{tab-getD, all-at}
+use Rattle.bits.proofs.Tests.{tab-getD}
 use Rattle.bits.proofs.RowLaws.{put-behind}
 use Rattle.meaning.specs.Limits.{largestN, stripWidth}
 use Rattle.meaning.specs.Answers.{numbersOf, Reply, leaving, decoding}
-use Rattle.meaning.specs.Stream.{header, padded, answerRecord}
+use Rattle.meaning.specs.Stream.{twoBytes, header, padded, answerRecord}
 use Rattle.meaning.specs.declared.Answer.{Answer}
-use Rattle.stream.specs.Laying.{small, Small, laid}
-use Rattle.stream.proofs.Fitting.{numbers-five, fits-a-byte, keeps-length}
+use Rattle.stream.specs.Laying.{Small, laid}
+use Rattle.stream.proofs.Fitting.{numbers-five, fits-two-bytes, keeps-length}
 
 -- ---- the numbers
 
@@ -30,17 +28,15 @@ module _ (a : Answer) (v : List ℕ) (e : v ≡ numbersOf a) where
   five : length v ≡ 5
   five = ap length e ∙ numbers-five a
 
-  pub small-at : Small a → (i : ℕ) → i < 5 → getD v i 0 < 256
-  unfolding small
-  small-at h i l = ltb-true (getD v i 0) 256 (all-at (λ (x : ℕ). ltb x 256) 0 v (rw e h) i (omega (arith, five)))
-
-  pub headed : getD v 0 0 ∷ getD v 1 0 ∷ getD v 2 0 ∷ getD v 3 0 ∷ getD v 4 0 ∷ 0 ∷ 0 ∷ 0 ∷ [] ≡ header a
+  pub headed : flatten (tab 5 (λ (i : ℕ). twoBytes (getD v i 0))) ++ replicate 6 0 ≡ header a
+  unfolding flatten
   headed =
       let t : tab 5 (λ (i : ℕ). getD v i 0) ≡ v = subst (λ (k : ℕ). tab k (λ (i : ℕ). getD v i 0) ≡ v) five (tab-getD v 0 (λ (i : ℕ). getD v i 0) (λ i l. refl)) in
-      ap (λ (l : List ℕ). l ++ (0 ∷ 0 ∷ 0 ∷ [])) (t ∙ e)
+      ap (λ (l : List ℕ). flatten (map twoBytes l) ++ replicate 6 0) (t ∙ e)
 
-pub header-long : (a : Answer) → length (header a) ≡ 8
-header-long a = length-append (numbersOf a) (0 ∷ 0 ∷ 0 ∷ []) ∙ ap (λ (k : ℕ). k + 3) (numbers-five a)
+pub header-long : (a : Answer) → length (header a) ≡ 16
+unfolding flatten
+header-long a = ap length (sym (headed a (numbersOf a) refl))
 
 -- ---- parts put one behind the other
 
@@ -174,7 +170,7 @@ put-whole h s o x k lh lo o₁ eo ex =
 
 module _ (n : ℕ) (s : List ℕ) (r c : ℕ) (w f b : List ℕ) (a : Answer) (p : leaving b a ≡ decoding n s r c w f) where
   pub answered-small : n ≤ largestN → Small a
-  answered-small h = subst (λ (t : Reply). Small (t .answer)) (sym p) (fits-a-byte n h s r c w f)
+  answered-small h = subst (λ (t : Reply). Small (t .answer)) (sym p) (fits-two-bytes n h s r c w f)
 
   pub answered-long : f ≡ replicate (3 * 2 ^ n) 255 → length b ≡ 3 * 2 ^ n
   answered-long e = ap (λ (t : Reply). length (t .bytes)) p ∙ keeps-length n s r c w f ∙ ap length e ∙ length-replicate (3 * 2 ^ n) 255

@@ -2,7 +2,7 @@
 --     stream-determined               any two results that the promise allows are equal
 --     short-untouched, room-done      16 exactly where the output is too short, and then nothing is touched
 --     record-count                    as many records as input bytes divided by N, rounded up
---     record-at                       record k, at byte 392k, is the answer to word k
+--     record-at                       record k, at its byte, is the answer to word k
 --     alone                           record k depends on word k alone
 --     cut                             an input cut at a multiple of N: the parts, answered one after the other, give the same bytes
 use mathlib.Core.Path.{_≡_, sym, ap, ap₂, _∙_}

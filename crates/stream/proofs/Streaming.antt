@@ -1,5 +1,5 @@
 -- The records one after the other.
---     record-long, records-wide     each record has its 392 bytes
+--     record-long, records-wide     each record has its bytes
 --     word-is           word i, as the code cuts it out
 --     put-record        the next record put behind those before it
 --     short, room       the test for room

@@ -1,5 +1,5 @@
 -- A record, in the parts that the code writes.
---     small, Small a    whether each number of an answer fits a byte
+--     small, Small a    whether each number of an answer fits two bytes
 --     laid k b          three strips that start with the three parts of b, k bytes each
 use mathlib.Core.Path.{_≡_}
 use Prim.Native.Nat.{ℕ, _*_}
@@ -13,7 +13,7 @@ use Rattle.meaning.specs.Stream.{padded}
 use Rattle.meaning.specs.declared.Answer.{Answer}
 
 unfoldable pub small : Answer → Bool
-small a = all (λ (x : ℕ). ltb x 256) (numbersOf a)
+small a = all (λ (x : ℕ). ltb x 65536) (numbersOf a)
 
 abbrev pub Small : Answer → Type 0
 Small a = small a ≡ true

@@ -5,23 +5,30 @@ ghost use Prim.Native.Nat.{_*_, _^_, _≤_};
 ghost use lib.ListN.{length, replicate};
 ghost use Rattle.meaning.specs.Limits.{largestN, stripWidth};
 ghost use Rattle.meaning.specs.Stream.{header, answerBytes, answerRecord, refusedRecord};
-ghost use Rattle.stream.specs.Laying.{Small, laid};
+ghost use Rattle.stream.specs.Laying.{laid};
 use crate::size_of;
 use meaning::Answer;
 use meaning::limits;
 
-// The first eight bytes: code, place, g, m, d, three zeros. Each number fits a byte.
+// The first 16 bytes: code, place, g, m, d, two bytes each, low first; six zeros.
 fn head(a: Answer) -> [u8; limits::HEAD]
-    requires { ⌜ Small a ⌝ }
     ensures { λ r. ⌜ r ≡ header a ⌝ }
 {
     let v = meaning::numbers(a);
     [
-        v[0] as u8,
-        v[1] as u8,
-        v[2] as u8,
-        v[3] as u8,
-        v[4] as u8,
+        (v[0] % 256) as u8,
+        (v[0] / 256 % 256) as u8,
+        (v[1] % 256) as u8,
+        (v[1] / 256 % 256) as u8,
+        (v[2] % 256) as u8,
+        (v[2] / 256 % 256) as u8,
+        (v[3] % 256) as u8,
+        (v[3] / 256 % 256) as u8,
+        (v[4] % 256) as u8,
+        (v[4] / 256 % 256) as u8,
+        0,
+        0,
+        0,
         0,
         0,
         0,
@@ -53,7 +60,7 @@ fn lay(found: &[u8], size: usize, strips: &mut [u8])
 
 // Writes a record.
 fn put(a: Answer, strips: &[u8], out: &mut [u8])
-    requires { ⌜ Small a × (length (now strips) ≡ 3 * stripWidth) × (length (now out) ≡ answerBytes) ⌝ }
+    requires { ⌜ (length (now strips) ≡ 3 * stripWidth) × (length (now out) ≡ answerBytes) ⌝ }
     ensures { λ _. ⌜ now (out .exit) ≡ header a ++ now (strips .entry) ⌝ }
 {
     bytes::copy(&head(a), out);
@@ -62,7 +69,7 @@ fn put(a: Answer, strips: &[u8], out: &mut [u8])
 
 // Writes the record of an answer that left its output untouched.
 pub fn refuse(a: Answer, out: &mut [u8])
-    requires { ⌜ Small a × (length (now out) ≡ answerBytes) ⌝ }
+    requires { ⌜ length (now out) ≡ answerBytes ⌝ }
     ensures { λ _. ⌜ now (out .exit) ≡ refusedRecord a ⌝ }
 {
     put(a, &blank(), out);

@@ -5,23 +5,25 @@
 --     the-strips            all three strips
 --     verdict-rows          the verdict
 use mathlib.Core.Path.{_≡_, refl, sym, ap, ap₂, _∙_}
-use Prim.Native.Nat.{ℕ, zero, suc, _*_, _-_, _^_, _≤_, _<_}
+use Prim.Native.Nat.{ℕ, zero, suc, _+_, _*_, _-_, _^_, _≤_, _<_}
 use native.Mathlib.Omega.{arith}
 use mathlib.Core.Bool.{Bool, true, false}
 use mathlib.Core.List.{List, [], _++_, map, List·Memᴰ, Memᴰ·map, Memᴰ·of-map}
-use lib.ListN.{length, getD, replicate, length-map, length-set, length-replicate}
+use lib.ListN.{length, getD, replicate, length-map, length-set, length-replicate, replicate-append-replicate}
 use lib.Dec.{eqb}
 use borrow.Author.Tests.{eq-eqb, ne-eqb}
-use Rattle.bits.specs.Vectors.{bit, pick, filter, allBits, Before}
+use Rattle.bits.specs.Vectors.{_⊕_, bit, pick, filter, allBits, Before}
 use Rattle.bits.specs.Rows.{Row}
 use Rattle.bits.proofs.Tests.{filter-mem, mem-filter, length-filter}
+use Rattle.bits.proofs.Xor.{⊕-false}
 use Rattle.bits.proofs.Rising.{all-bits, bits-length, rises-bits, rises-filter}
 use Rattle.gf2.specs.Rows.{at}
 use Rattle.gf2.specs.Solve.{lead, solve}
-use Rattle.gf2.specs.System.{Within, Hom, value, solves, consistent, completed, unit}
+use Rattle.gf2.specs.System.{Within, Hom, dot, value, solves, consistent, completed, unit}
 use Rattle.gf2.proofs.Rows.{has-⊻}
 use Rattle.gf2.proofs.Passes.{getD-map, solve-sized}
-use Rattle.gf2.proofs.Fill.{length-fill}
+use Rattle.gf2.proofs.Fill.{length-fill, dot-append, dot-none}
+use Rattle.gf2.proofs.Leads.{lead-above}
 use Rattle.gf2.proofs.Solutions.{after, rest, rest-within, completed-solves, first-solution, last-solution, solution-count, settled, rest-by-free, first-value, unsettled}
 use Rattle.meaning.specs.Strips.{settledAt, first, last, strips}
 use Rattle.meaning.specs.Answers.{verdict, writing}
@@ -70,16 +72,29 @@ module _ (c : ℕ) (e r : List Row) (g : ℕ) (hg : g ≤ 64 * c) (B : Within c 
         (λ y m. let (l, s) = member y m in first-solution c e r κ hom g hg B y l s)
         ∙ places [] (value κ lowest) (rowFirst c) r (rest c e r) sized (λ j l. ap bit (first-value c e r κ hom g hg B ok j l))
 
-    the-last : last (map block solutions) ≡ map (rowLast c g) (rest c e r)
-    the-last =
-        last-of block solutions highest (rises-filter Before (solves κ e) (allBits g) (rises-bits g)) (full (replicate g true) (length-replicate g true))
-        (λ y m. let (l, s) = member y m in last-solution c e r κ hom g hg B y l s)
-        ∙ places [] (value κ highest) (rowLast c g) r (rest c e r) sized
-        (λ j l. ap bit (rest-by-free c e r κ hom g hg B ok (replicate g true) (length-replicate g true) j l))
-
     -- ---- whether all agree
 
     module _ (C : Within c g r) where
+      -- no row has a coefficient beyond the unknowns
+      sum-all : (j : ℕ) → j < length r → dot 0 (at (rest c e r) j) (replicate (64 * c) true) ≡ dot 0 (at (rest c e r) j) (replicate g true)
+      sum-all j h =
+          let x = at (rest c e r) j in
+          let k : ℕ = 64 * c - g in
+          let n : g + k ≡ 64 * c = omega arith in
+          let z = length-replicate {A = Bool} g true in
+          let y = length-replicate {A = Bool} k true in
+          ap (λ (m : ℕ). dot 0 x (replicate m true)) (sym n) ∙ ap (dot 0 x) (sym (replicate-append-replicate g k true))
+          ∙ dot-append 0 x (replicate g true) (replicate k true)
+          ∙ ap (λ (b : Bool). dot 0 x (replicate g true) ⊕ b) (dot-none (0 + length (replicate g true)) x (replicate k true) (λ t p q. lead-above c x t (omega (arith, rest-within c e r g B C j h)) (omega arith)))
+          ∙ ⊕-false (dot 0 x (replicate g true))
+
+      the-last : last (map block solutions) ≡ map (rowLast c) (rest c e r)
+      the-last =
+          last-of block solutions highest (rises-filter Before (solves κ e) (allBits g) (rises-bits g)) (full (replicate g true) (length-replicate g true))
+          (λ y m. let (l, s) = member y m in last-solution c e r κ hom g hg B y l s)
+          ∙ places [] (value κ highest) (rowLast c) r (rest c e r) sized
+          (λ j l. ap bit (rest-by-free c e r κ hom g hg B ok (replicate g true) (length-replicate g true) j l) ∙ ap (λ (b : Bool). bit (b ⊕ κ (at (rest c e r) j))) (sym (sum-all j l)))
+
       settled-at : (j : ℕ) → j < length r → settledAt (map block solutions) j ≡ rowSettled c (at (rest c e r) j)
       settled-at j h = go (lead c (at (rest c e r) j)) refl
         where
@@ -107,7 +122,7 @@ module _ (c : ℕ) (e r : List Row) (g : ℕ) (hg : g ≤ 64 * c) (B : Within c 
               low (Memᴰ·map block (full (unit g b) (length-set (replicate g false) b true ∙ length-replicate g false))) (read lowest ∙ a) (read _ ∙ z)
               ∙ sym (rw (ne-eqb (lead c x) 0 (λ (w : lead c x ≡ 0). omega arith)) refl)
 
-      the-strips : (n : ℕ) → length r ≡ 2 ^ n → strips n (map block solutions) ≡ rowStrips c g (rest c e r)
+      the-strips : (n : ℕ) → length r ≡ 2 ^ n → strips n (map block solutions) ≡ rowStrips c (rest c e r)
       unfolding rowStrips
       the-strips n l =
           strips-are n (map block solutions)

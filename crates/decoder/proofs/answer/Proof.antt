@@ -26,7 +26,7 @@ settle-requires c κs =
     let v = D .last .1 .1 .1 .1 .1 .1 .0 in
     let u = D .last .1 .1 .1 .1 .1 .1 .1 .0 in
     let e = D .last .1 .1 .1 .1 .1 .1 .1 .1 .0 in
-    settling (A .n) (A .sheet .now) (A .r) (A .ceiling) (A .word .now) (A .out .now) (A .vals .now) (A .us .now) (A .eqs .now) (start .pre .0) (start .pre .1 .0) (start .pre .1 .1) (start .pre .1 .2) _ _ (D .result) v u e (told .before .g2 .given .1) (D .ensures) (D .kept .1 .1 .1 .1 .1 .1 .0) (D .kept .1 .1 .1 .1 .1 .1 .1 .0) (D .kept .1 .1 .1 .1 .1 .1 .1 .1 .0)
+    settling (A .c) (A .w) (A .n) (A .sheet .now) (A .r) (A .ceiling) (A .word .now) (A .out .now) (A .vals .now) (A .us .now) (A .eqs .now) (start .pre .0) (start .pre .1 .0) (start .pre .1 .1) (start .pre .1 .2) (start .pre .1 .3) (start .pre .1 .4) (start .pre .1 .5) _ _ (D .result) v u e (told .before .g2 .given .1) (D .ensures) (D .kept .1 .1 .1 .1 .1 .1 .0) (D .kept .1 .1 .1 .1 .1 .1 .1 .0) (D .kept .1 .1 .1 .1 .1 .1 .1 .1 .0)
 
 same-length : tie.Need-same-length
 same-length c = c .before .before .before .before .before .before .before .before .descend .kept .1 .1 .1 .1 .1 .1 .0
@@ -46,7 +46,7 @@ returns c =
     let v = D .last .1 .1 .1 .1 .1 .1 .0 in
     let u = D .last .1 .1 .1 .1 .1 .1 .1 .0 in
     let e = D .last .1 .1 .1 .1 .1 .1 .1 .1 .0 in
-    never-misfit (A .n) (A .sheet .now) (A .r) (A .ceiling) (A .word .now) (A .out .now) (A .vals .now) (A .us .now) (A .eqs .now) (start .pre .0) (start .pre .1 .0) (start .pre .1 .1) (start .pre .1 .2) (D .result) v u e (c .enum-told .given .1) (D .ensures)
+    never-misfit (A .c) (A .w) (A .n) (A .sheet .now) (A .r) (A .ceiling) (A .word .now) (A .out .now) (A .vals .now) (A .us .now) (A .eqs .now) (start .pre .0) (start .pre .1 .0) (start .pre .1 .1) (start .pre .1 .2) (start .pre .1 .3) (start .pre .1 .4) (start .pre .1 .5) (D .result) v u e (c .enum-told .given .1) (D .ensures)
 
 same-length-4 : tie.Need-same-length-4
 same-length-4 c = c .before .before .before .before .before .before .before .before .before .descend .kept .1 .1 .1 .1 .1 .1 .0
@@ -66,19 +66,19 @@ returns-2 c =
     let v = D .last .1 .1 .1 .1 .1 .1 .0 in
     let u = D .last .1 .1 .1 .1 .1 .1 .1 .0 in
     let e = D .last .1 .1 .1 .1 .1 .1 .1 .1 .0 in
-    too-many (A .n) (A .sheet .now) (A .r) (A .ceiling) (A .word .now) (A .out .now) (A .vals .now) (A .us .now) (A .eqs .now) (start .pre .0) (start .pre .1 .0) (start .pre .1 .1) (start .pre .1 .2) _ (D .result) v u e (c .before .g .given .1) (D .ensures)
+    too-many (A .c) (A .w) (A .n) (A .sheet .now) (A .r) (A .ceiling) (A .word .now) (A .out .now) (A .vals .now) (A .us .now) (A .eqs .now) (start .pre .0) (start .pre .1 .0) (start .pre .1 .1) (start .pre .1 .2) (start .pre .1 .3) (start .pre .1 .4) (start .pre .1 .5) _ (D .result) v u e (c .before .g .given .1) (D .ensures)
 
 same-length-7 : tie.Need-same-length-7
-same-length-7 c = c .before .before .before .before .before .before .settle .kept .1 .1 .1 .1 .1 .1 .1 .0 ∙ c .before .before .before .before .before .before .before .before .before .before .before .before .before .before .before .before .before .before .before .before .descend .kept .1 .1 .1 .1 .1 .1 .0
+same-length-7 c = c .before .before .before .before .before .before .settle .kept .1 .1 .1 .1 .1 .1 .1 .1 .1 .0 ∙ c .before .before .before .before .before .before .before .before .before .before .before .before .before .before .before .before .before .before .before .before .descend .kept .1 .1 .1 .1 .1 .1 .0
 
 same-length-8 : tie.Need-same-length-8
 same-length-8 c = c .before .before .before .before .before .before .before .before .before .before .before .before .before .before .before .before .before .before .before .before .descend .kept .1 .1 .1 .1 .1 .1 .1 .0
 
 same-length-9 : tie.Need-same-length-9
-same-length-9 c = c .before .before .before .before .before .before .settle .kept .1 .1 .1 .1 .1 .1 .0 ∙ c .before .before .before .before .before .before .before .before .before .before .before .before .before .before .before .before .before .before .before .before .descend .kept .1 .1 .1 .1 .1 .1 .1 .1 .0
+same-length-9 c = c .before .before .before .before .before .before .settle .kept .1 .1 .1 .1 .1 .1 .1 .1 .0 ∙ c .before .before .before .before .before .before .before .before .before .before .before .before .before .before .before .before .before .before .before .before .descend .kept .1 .1 .1 .1 .1 .1 .1 .1 .0
 
 same-length-10 : tie.Need-same-length-10
-same-length-10 c = c .before .before .before .before .before .before .settle .kept .1 .1 .1 .1 .1 .1 .1 .1 .0
+same-length-10 c = c .before .before .before .before .before .before .settle .kept .1 .1 .1 .1 .1 .1 .1 .1 .1 .1 .0
 
 returns-3 : tie.Need-returns-3
 returns-3 c =
@@ -91,7 +91,7 @@ returns-3 c =
     let v = D .last .1 .1 .1 .1 .1 .1 .0 in
     let u = D .last .1 .1 .1 .1 .1 .1 .1 .0 in
     let e = D .last .1 .1 .1 .1 .1 .1 .1 .1 .0 in
-    decided (A .n) (A .sheet .now) (A .r) (A .ceiling) (A .word .now) (A .out .now) (A .vals .now) (A .us .now) (A .eqs .now) (start .pre .0) (start .pre .1 .0) (start .pre .1 .1) (start .pre .1 .2) _ _ (D .result) v u e (told .before .g2 .given .1) (D .ensures) (D .kept .1 .1 .1 .1 .1 .1 .0) (D .kept .1 .1 .1 .1 .1 .1 .1 .0) (D .kept .1 .1 .1 .1 .1 .1 .1 .1 .0) _ (settled .settle .ensures)
+    decided (A .c) (A .w) (A .n) (A .sheet .now) (A .r) (A .ceiling) (A .word .now) (A .out .now) (A .vals .now) (A .us .now) (A .eqs .now) (start .pre .0) (start .pre .1 .0) (start .pre .1 .1) (start .pre .1 .2) (start .pre .1 .3) (start .pre .1 .4) (start .pre .1 .5) _ _ (D .result) v u e (told .before .g2 .given .1) (D .ensures) (D .kept .1 .1 .1 .1 .1 .1 .0) (D .kept .1 .1 .1 .1 .1 .1 .1 .0) (D .kept .1 .1 .1 .1 .1 .1 .1 .1 .0) _ (settled .settle .ensures)
 
 pub answer-spec : {M : Type 1} → statement M
 answer-spec =

@@ -1,6 +1,7 @@
 use borrow.Author.Tests.{not-true, not-false}
 use borrow.Author.Needs.{needs}
-use Rattle.meaning.specs.Limits.{largestN}
+use Rattle.meaning.specs.Limits.{largestN, largestCeiling}
+use Rattle.decoder.specs.Deciding.{mostWords}
 use Rattle.decoder.proofs.Deciding.{decode-refused, decode-passed, decode-decided}
 use Rattle.decoder.proofs.decode.Statement.{statement}
 use Rattle.decoder.proofs.decode.Tie as tie
@@ -24,7 +25,7 @@ slice-aggregate-decide-3 : tie.Need-slice-aggregate-decide-3
 slice-aggregate-decide-3 c = search needs
 
 decide-requires : tie.Need-decide-requires
-unfolding largestN
+unfolding largestN mostWords largestCeiling
 decide-requires c κs =
     let test = c .before .before .before .before in
     (decode-passed _ _ _ _ _ _ _ (test .before .before .fault .ensures) _ (test .before .is-done .ensures) (not-false _ (test .if1 .left)), search needs)

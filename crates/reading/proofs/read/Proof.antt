@@ -8,9 +8,7 @@ sound-requires : tie.Need-sound-requires
 sound-requires c κs = search needs
 
 returns : tie.Need-returns
-returns c =
-    let start = c .before .before .before .before .before in
-    contradicted (start .args .eqs .now) (start .args .vals .now) (start .args .g) (start .args .m) (start .args .rank) _ (start .args .out .now) (start .pre .1 .1) (start .pre .0 .1) _ (c .before .sound .ensures) (not-true _ (c .if1 .taken))
+returns c = let A = c .before .before .before .before .before .args in contradicted (A .c) (A .w) (A .eqs .now) (A .vals .now) (A .g) (A .m) (A .rank) (A .out .now) _ (c .before .sound .ensures) (not-true _ (c .if1 .taken))
 
 write-requires : tie.Need-write-requires
 write-requires c κs = search needs
@@ -23,22 +21,18 @@ same-length c = search needs
 
 returns-2 : tie.Need-returns-2
 returns-2 c =
-    let write = c .before .before .before in
-    let test = write .before .before in
-    let start = test .before .before .before .before .before in
-    unique-read (start .args .eqs .now) (start .args .vals .now) (start .args .g) (start .args .m) (start .args .rank) _ (start .args .out .now) (start .pre .1 .1) (start .pre .0 .1) _ (test .before .sound .ensures) (not-false _ (test .if1 .left))
-    (write .write .last .1 .1 .0) (write .write .ensures) (c .if2 .taken)
+    let A = c .before .before .before .before .before .before .before .before .before .before .args in
+    let W = c .before .before .before .write in
+    unique-read (A .c) (A .w) (A .eqs .now) (A .vals .now) (A .g) (A .m) (A .rank) (A .out .now) _ (c .before .before .before .before .before .before .sound .ensures) (not-false _ (c .before .before .before .before .before .if1 .left)) (W .last .1 .1 .1 .0) (W .ensures) (c .if2 .taken)
 
 same-length-2 : tie.Need-same-length-2
 same-length-2 c = search needs
 
 returns-3 : tie.Need-returns-3
 returns-3 c =
-    let write = c .before .before .before in
-    let test = write .before .before in
-    let start = test .before .before .before .before .before in
-    ambiguous-read (start .args .eqs .now) (start .args .vals .now) (start .args .g) (start .args .m) (start .args .rank) _ (start .args .out .now) (start .pre .1 .1) (start .pre .0 .1) _ (test .before .sound .ensures) (not-false _ (test .if1 .left))
-    (write .write .last .1 .1 .0) (write .write .ensures) (c .if2 .left)
+    let A = c .before .before .before .before .before .before .before .before .before .before .args in
+    let W = c .before .before .before .write in
+    ambiguous-read (A .c) (A .w) (A .eqs .now) (A .vals .now) (A .g) (A .m) (A .rank) (A .out .now) _ (c .before .before .before .before .before .before .sound .ensures) (not-false _ (c .before .before .before .before .before .if1 .left)) (W .last .1 .1 .1 .0) (W .ensures) (c .if2 .left)
 
 pub read-spec : {M : Type 1} → statement M
 read-spec =

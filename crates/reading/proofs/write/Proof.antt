@@ -1,10 +1,13 @@
 use Prim.Native.Nat.{_/_, zero-le}
 use native.Mathlib.Omega.{arith}
-use lib.ListN.{length}
+use lib.ListN.{length, length-take, length-drop}
 use borrow.Author.Needs.{needs}
 use Rattle.reading.proofs.Assembling.{written, as-long}
 use Rattle.reading.proofs.write.Statement.{statement}
 use Rattle.reading.proofs.write.Tie as tie
+
+div-size : tie.Need-div-size
+div-size c = search needs
 
 sub-settled : tie.Need-sub-settled
 sub-settled c = zero-le
@@ -13,7 +16,7 @@ part-settled-start : tie.Need-part-settled-start
 part-settled-start c = zero-le
 
 part-settled-end : tie.Need-part-settled-end
-part-settled-end c = omega arith
+part-settled-end c = omega (arith, c .before .before .pre .2)
 
 settled-requires : tie.Need-settled-requires
 settled-requires c κs = search needs
@@ -32,9 +35,6 @@ part-first-end c = omega arith
 
 first-requires : tie.Need-first-requires
 first-requires c κs = search needs
-
-ones-requires : tie.Need-ones-requires
-ones-requires c κs = search needs
 
 mul-last : tie.Need-mul-last
 mul-last c = search needs
@@ -56,27 +56,27 @@ last-requires c κs = search needs
 
 same-length : tie.Need-same-length
 same-length c =
-    let start = c .before .before .before .before .before .before .before .before .before .before .before .before .before .before .before in
-    let settled = (c .before .before .before .before .before .before .before .before .before .before .before) .settled in
-    let first = (c .before .before .before .before .before .before .before) .first in
-    let last = (c .before .before) .last in
-    as-long (length (start .args .vals .now) / 2) (start .args .out .now) (settled .last .1 .0) (first .last .1 .0) (last .last .1 .1 .0) (settled .kept .1 .0) (first .kept .1 .0) (last .kept .1 .1 .0)
+    let settled = c .before .before .before .before .before .before .before .before .before .before .settled in
+    let first = c .before .before .before .before .before .before .first in
+    let last = c .before .before .last in
+    let A = c .before .before .before .before .before .before .before .before .before .before .before .before .before .before .args in
+    as-long (length (A .vals .now) / A .w) (A .out .now) (settled .last .1 .1 .1 .0) (first .last .1 .1 .1 .0) (last .last .1 .1 .1 .0) (settled .kept .1 .1 .1 .0) (first .kept .1 .1 .1 .0) (last .kept .1 .1 .1 .0)
 
 returns : tie.Need-returns
 returns c =
-    let start = c .before .before .before .before .before .before .before .before .before .before .before .before .before .before .before in
-    let settled = c .before .before .before .before .before .before .before .before .before .before .before in
-    let first = c .before .before .before .before .before .before .before in
+    let settled = c .before .before .before .before .before .before .before .before .before .before in
+    let first = c .before .before .before .before .before .before in
     let last = c .before .before in
-    written (start .args .vals .now) _ (start .pre .1) (start .args .out .now) (start .args .g) (start .pre .0)
-    (settled .settled .last .1 .0) (first .first .last .1 .0) (last .last .last .1 .1 .0) _ _ _ _ (last .before .before .ones .ensures)
-    (settled-requires (settled .before) (start .κs)) (first-requires (first .before) (start .κs)) (last-requires (last .before) (start .κs))
+    let A = c .before .before .before .before .before .before .before .before .before .before .before .before .before .before .args in
+    written (A .c) (A .w) (A .vals .now) (A .out .now) (settled .settled .last .1 .1 .1 .0) (first .first .last .1 .1 .1 .0) (last .last .last .1 .1 .1 .0) _ _ _
+    (settled-requires (settled .before) (c .before .before .before .before .before .before .before .before .before .before .before .before .before .before .κs) .2) (first-requires (first .before) (c .before .before .before .before .before .before .before .before .before .before .before .before .before .before .κs) .2) (last-requires (last .before) (c .before .before .before .before .before .before .before .before .before .before .before .before .before .before .κs) .2)
     (settled .settled .ensures) (first .first .ensures) (last .last .ensures)
 
 pub write-spec : {M : Type 1} → statement M
 write-spec =
     tie.close
     (tie.spec
+    div-size
     sub-settled
     part-settled-start
     part-settled-end
@@ -86,7 +86,6 @@ write-spec =
     part-first-start
     part-first-end
     first-requires
-    ones-requires
     mul-last
     mul-last-2
     sub-last

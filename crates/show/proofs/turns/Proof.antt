@@ -19,8 +19,8 @@ read-full-requires c κs = search needs
 loop-holds : tie.Need-loop-holds Inv-loop μ-loop
 loop-holds c = search needs
 
-slice-read-counted : tie.Need-slice-read-counted Inv-loop μ-loop
-slice-read-counted c = search needs
+two-requires : tie.Need-two-requires Inv-loop μ-loop
+two-requires c κs = search needs
 
 counted-requires : tie.Need-counted-requires Inv-loop μ-loop
 counted-requires c κs = search needs
@@ -76,7 +76,7 @@ turns-spec =
     none-requires
     read-full-requires
     loop-holds
-    slice-read-counted
+    two-requires
     counted-requires
     line-requires
     fail-requires

@@ -1,5 +1,5 @@
 use mathlib.Core.Path.{sym, ap, _∙_}
-use Prim.Native.Nat.{ℕ, _*_, _≤_, _-_}
+use Prim.Native.Nat.{ℕ, suc, _*_, _≤_, _-_}
 use Rattle.meaning.specs.Limits.{largestN, recordBytes, maskBytes}
 use Rattle.stream.proofs.Counting.{Left, size-start, size-found, size-next, size-none, size-low}
 use borrow.Author.Needs.{needs}
@@ -8,12 +8,13 @@ use Rattle.stream.proofs.size.Statement.{statement}
 use Rattle.stream.proofs.size.Tie as tie
 
 abbrev Inv-loop : tie.InvT-loop
-Inv-loop sheet n₀ n = (n ≤ 8) × Left sheet n
+Inv-loop sheet n₀ n = (n ≤ suc largestN) × Left sheet n
 
 abbrev μ-loop : tie.MeasureT-loop
-μ-loop sheet n₀ n = 8 - n
+μ-loop sheet n₀ n = suc largestN - n
 
 loop-holds : tie.Need-loop-holds Inv-loop μ-loop
+unfolding largestN
 loop-holds c = (omega arith, size-start (c .before .args .sheet .now))
 
 size-of-requires : tie.Need-size-of-requires Inv-loop μ-loop
@@ -29,12 +30,14 @@ unfolding largestN recordBytes maskBytes
 returns c =
     let in-loop = c .before .before in
     let at-loop = in-loop .before in
-    size-found _ _ (at-loop .loop .inv .1) (in-loop .loop-test .taken) (c .if1 .taken ∙ ap (λ (k : ℕ). k * 20) (c .before .size-of .ensures))
+    size-found _ _ (at-loop .loop .inv .1) (in-loop .loop-test .taken) (c .if1 .taken ∙ ap (λ (k : ℕ). k * recordBytes) (c .before .size-of .ensures))
 
 add-n : tie.Need-add-n Inv-loop μ-loop
+unfolding largestN
 add-n c = search needs
 
 loop-less : tie.Need-loop-less Inv-loop μ-loop
+unfolding largestN
 loop-less c = search needs
 
 loop-again : tie.Need-loop-again Inv-loop μ-loop
@@ -42,7 +45,7 @@ unfolding largestN recordBytes maskBytes
 loop-again c =
     let in-loop = c .before .before in
     let at-loop = in-loop .before in
-    (omega arith, size-next _ _ (at-loop .loop .inv .1) (in-loop .loop-test .taken) (λ e. c .if1 .left (e ∙ ap (λ (k : ℕ). k * 20) (sym (c .before .size-of .ensures)))))
+    (omega arith, size-next _ _ (at-loop .loop .inv .1) (in-loop .loop-test .taken) (λ e. c .if1 .left (e ∙ ap (λ (k : ℕ). k * recordBytes) (sym (c .before .size-of .ensures)))))
 
 returns-2 : tie.Need-returns-2 Inv-loop μ-loop
 unfolding largestN

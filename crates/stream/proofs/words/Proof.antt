@@ -14,7 +14,7 @@ use Rattle.stream.proofs.words.Statement.{statement}
 use Rattle.stream.proofs.words.Tie as tie
 
 abbrev Inv-loop : tie.InvT-loop
-Inv-loop n sheet r ceiling input k out₀ size i₀ out i = (i ≤ k) × (length out ≡ length out₀) × (out ≡ flatten (tab i (recordAt n sheet r ceiling input)) ++ drop (i * 392) out₀)
+Inv-loop n sheet r ceiling input k out₀ size i₀ out i = (i ≤ k) × (length out ≡ length out₀) × (out ≡ flatten (tab i (recordAt n sheet r ceiling input)) ++ drop (i * answerBytes) out₀)
 
 abbrev μ-loop : tie.MeasureT-loop
 μ-loop n sheet r ceiling input k out₀ size i₀ out i = k - i
@@ -23,7 +23,7 @@ size-of-requires : tie.Need-size-of-requires Inv-loop μ-loop
 size-of-requires c κs = c .before .before .before .pre .0
 
 loop-holds : tie.Need-loop-holds Inv-loop μ-loop
-unfolding flatten
+unfolding flatten answerBytes stripWidth
 loop-holds c = (omega arith, refl, refl)
 
 mul-from : tie.Need-mul-from Inv-loop μ-loop
@@ -98,8 +98,8 @@ loop-again c =
     ∙ ap (answerRecord (A .n) (A .sheet .now) (A .r) (A .ceiling)) (word-is (A .n) (A .input .now) (l .i) _ _ (at-size-of .size-of .ensures) (at-end-of .end-of .ensures .2)) in (
       omega (arith, in-loop .loop-test .taken),
       c .before .out .given .1 ∙ l .inv .1,
-      ap (λ (o : List ℕ). putMid (l .i * 392) (l .i * 392 + 392 - l .i * 392) o (at-answer .answer .last .1 .1 .1 .1 .1 .0)) (l .inv .2)
-          ∙ put-record 392 (recordAt (A .n) (A .sheet .now) (A .r) (A .ceiling) (A .input .now)) (λ i. record-long (A .n) (A .sheet .now) (A .r) (A .ceiling) _ (start .pre .0)) (A .out .now) (l .i) _ x,
+      ap (λ (o : List ℕ). putMid (l .i * answerBytes) (l .i * answerBytes + answerBytes - l .i * answerBytes) o (at-answer .answer .last .1 .1 .1 .1 .1 .0)) (l .inv .2)
+          ∙ put-record answerBytes (recordAt (A .n) (A .sheet .now) (A .r) (A .ceiling) (A .input .now)) (λ i. record-long (A .n) (A .sheet .now) (A .r) (A .ceiling) _ (start .pre .0)) (A .out .now) (l .i) _ x,
     )
 
 same-length : tie.Need-same-length Inv-loop μ-loop

@@ -1,9 +1,7 @@
-use mathlib.Core.Path.{refl}
 use Prim.Native.Nat.{_-_}
 use lib.ListN.{length-take}
 use Rattle.meaning.specs.Limits.{largestN, stripWidth}
 use Rattle.meaning.specs.Stream.{answerBytes}
-use Rattle.stream.specs.Laying.{small}
 use Rattle.stream.proofs.Streaming.{shape-room, shape-alone, choice-room, choice-alone, words-count, words-all}
 use borrow.Author.Needs.{needs}
 use native.Mathlib.Omega.{arith}
@@ -27,11 +25,11 @@ part-refuse-end c =
     shape-room (A .sheet .now) (A .choice .now) (A .input .now) (A .out .now) _ (c .before .size .ensures) (A .k) (start .pre .0) (c .if1 .taken) (start .pre .1)
 
 refuse-requires : tie.Need-refuse-requires
-unfolding answerBytes stripWidth largestN small
+unfolding answerBytes stripWidth largestN
 refuse-requires c κs =
     let at-size = c .before .before in
     let start = at-size .before .before .before .before .before in
-    let A = start .args in (refl, simp length-take (omega (arith, shape-room (A .sheet .now) (A .choice .now) (A .input .now) (A .out .now) _ (at-size .size .ensures) (A .k) (start .pre .0) (c .before .if1 .taken) (start .pre .1))))
+    let A = start .args in (simp length-take (omega (arith, shape-room (A .sheet .now) (A .choice .now) (A .input .now) (A .out .now) _ (at-size .size .ensures) (A .k) (start .pre .0) (c .before .if1 .taken) (start .pre .1))))
 
 sub-refuse-2 : tie.Need-sub-refuse-2
 sub-refuse-2 c = search needs
@@ -48,12 +46,12 @@ part-refuse-end-2 c =
     choice-room (A .sheet .now) (A .choice .now) (A .input .now) (A .out .now) _ (at-size .size .ensures) (A .k) (start .pre .0) (c .before .if1 .left) (c .if2 .taken) (start .pre .1)
 
 refuse-requires-2 : tie.Need-refuse-requires-2
-unfolding answerBytes stripWidth largestN small
+unfolding answerBytes stripWidth largestN
 refuse-requires-2 c κs =
     let else1 = c .before .before in
     let at-size = else1 .before in
     let start = at-size .before .before .before .before .before in
-    let A = start .args in (refl, simp length-take (omega (arith, choice-room (A .sheet .now) (A .choice .now) (A .input .now) (A .out .now) _ (at-size .size .ensures) (A .k) (start .pre .0) (else1 .if1 .left) (c .before .if2 .taken) (start .pre .1))))
+    let A = start .args in (simp length-take (omega (arith, choice-room (A .sheet .now) (A .choice .now) (A .input .now) (A .out .now) _ (at-size .size .ensures) (A .k) (start .pre .0) (else1 .if1 .left) (c .before .if2 .taken) (start .pre .1))))
 
 shared-slice-read-words : tie.Need-shared-slice-read-words
 shared-slice-read-words c = omega (arith, c .before .if2 .left)

@@ -17,7 +17,7 @@ shared-slice-read-result c = omega arith
 returns : tie.Need-returns
 unfolding recordBytes maskBytes
 returns c =
-    let q : c .before .args .i * 20 ≡ c .before .args .i * 20 + 0 = omega arith in
+    let q : c .before .args .i * recordBytes ≡ c .before .args .i * recordBytes + 0 = omega arith in
     ap (λ (x : ℕ). getD (c .before .args .sheet .now) x 0) q
 
 pub kind-spec : {M : Type 1} → statement M

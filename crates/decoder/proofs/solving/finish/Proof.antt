@@ -27,7 +27,7 @@ returns c =
     let start = call .before .before .before .before .before .before in
     let E = call .eliminate in
     let A = start .args in
-    never-misfit (A .eqs .now) (A .vals .now) (E .last .0) (E .last .1 .0) (E .result) (start .pre .1 .0) (start .pre .0 .1) (E .ensures) (c .enum-told .given .1)
+    never-misfit (A .c) (A .w) (start .pre .0 .0) (A .eqs .now) (A .vals .now) (E .last .0) (E .last .1 .0) (E .result) (start .pre .1 .0) (start .pre .0 .1) (E .ensures) (c .enum-told .given .1)
 
 same-length-3 : tie.Need-same-length-3
 same-length-3 c = search needs
@@ -46,7 +46,7 @@ returns-2 c =
     let start = call .before .before .before .before .before .before in
     let E = call .eliminate in
     let A = start .args in
-    concluded (A .eqs .now) (A .vals .now) (E .last .0) (E .last .1 .0) (E .result) (start .pre .1 .0) (start .pre .0 .1) (E .ensures) (A .g) (A .m) _ (A .out .now) (told .before .rank .given .1) (E .kept .0) (E .kept .1 .0) (start .pre .0 .0) (start .pre .1 .1) (start .pre .0 .2) _ (last .conclude .ensures)
+    concluded (A .c) (A .w) (start .pre .0 .0) (A .eqs .now) (A .vals .now) (E .last .0) (E .last .1 .0) (E .result) (start .pre .1 .0) (start .pre .0 .1) (E .ensures) (A .g) (A .m) _ (A .out .now) (told .before .rank .given .1) (E .kept .0) (E .kept .1 .0) (start .pre .1 .1) (start .pre .0 .2) _ (last .conclude .ensures)
 
 pub finish-spec : {M : Type 1} → statement M
 finish-spec =

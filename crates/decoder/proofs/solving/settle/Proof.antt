@@ -1,7 +1,7 @@
 use Prim.Native.Nat.{_+_, _-_, _*_}
 use native.Mathlib.Omega.{arith}
 use borrow.Author.Needs.{needs}
-use Rattle.decoder.proofs.Systems.{finishing, settled-as}
+use Rattle.decoder.proofs.Systems.{few-rows, finishing, settled-as}
 use Rattle.decoder.proofs.solving.settle.Statement.{statement}
 use Rattle.decoder.proofs.solving.settle.Tie as tie
 
@@ -9,10 +9,10 @@ check-rows-requires : tie.Need-check-rows-requires
 check-rows-requires c κs = search needs
 
 add-q : tie.Need-add-q
-add-q c = search needs
+add-q c = omega (arith, few-rows (c .before .before .before .before .before .before .before .before .before .args .w) (c .before .before .before .before .before .before .before .before .before .args .m + c .before .before .before .before .before .before .before .before .before .args .r) _ (omega (arith, c .before .before .before .before .before .before .before .before .before .pre .wide)) (c .before .before .before .before .before .before .before .before .before .pre .rows-e))
 
 mul-finish : tie.Need-mul-finish
-mul-finish c = search needs
+mul-finish c = omega (arith, c .before .before .before .before .before .before .before .before .before .pre .rows-e)
 
 sub-finish : tie.Need-sub-finish
 sub-finish c = search needs
@@ -21,7 +21,7 @@ part-finish-start : tie.Need-part-finish-start
 part-finish-start c = search needs
 
 part-finish-end : tie.Need-part-finish-end
-part-finish-end c = search needs
+part-finish-end c = omega (arith, c .before .before .before .before .before .before .before .before .before .pre .rows-e, c .before .before .check-rows .kept .1 .1 .1 .1 .1 .1 .1 .0)
 
 finish-requires : tie.Need-finish-requires
 finish-requires c κs =
@@ -29,7 +29,7 @@ finish-requires c κs =
     let start = call .before .before .before .before .before .before .before in
     let A = start .args in
     let C = call .check-rows in
-    finishing (A .n) (A .sheet .now) (A .r) (A .g) (A .m) (A .us .now) (A .eqs .now) (A .vals .now) _ (start .pre) _ (C .last .1 .1 .1 .1 .1 .1 .1 .0) (C .ensures) (2 * (A .m + A .r) - 0) (omega arith)
+    finishing (A .c) (A .w) (A .n) (A .sheet .now) (A .r) (A .g) (A .m) (A .us .now) (A .eqs .now) (A .vals .now) _ (start .pre) _ (C .last .1 .1 .1 .1 .1 .1 .1 .0) (C .ensures) ((A .m + A .r) * A .w - 0) (omega arith)
 
 same-length : tie.Need-same-length
 same-length c = search needs
@@ -47,7 +47,7 @@ returns c =
     let start = call .before .before .before .before .before .before .before in
     let A = start .args in
     let C = call .check-rows in
-    settled-as (A .n) (A .sheet .now) (A .r) (A .g) (A .m) (A .us .now) (A .eqs .now) (A .vals .now) _ (start .pre) _ (C .last .1 .1 .1 .1 .1 .1 .1 .0) (C .ensures) (2 * (A .m + A .r) - 0) (omega arith) (A .out .now) _ (finished .finish .ensures)
+    settled-as (A .c) (A .w) (A .n) (A .sheet .now) (A .r) (A .g) (A .m) (A .us .now) (A .eqs .now) (A .vals .now) _ (start .pre) _ (C .last .1 .1 .1 .1 .1 .1 .1 .0) (C .ensures) ((A .m + A .r) * A .w - 0) (omega arith) (A .out .now) _ (finished .finish .ensures)
 
 pub settle-spec : {M : Type 1} → statement M
 settle-spec =

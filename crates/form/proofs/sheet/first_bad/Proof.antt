@@ -1,6 +1,6 @@
 use mathlib.Core.Path.{_≡_, sym, _∙_}
 use mathlib.Core.Bool.{true}
-use Prim.Native.Nat.{_-_, _≤_}
+use Prim.Native.Nat.{_*_, _-_, _≤_}
 use native.Mathlib.Omega.{arith}
 use lib.ListN.{drop}
 use borrow.Author.Tests.{not-true, not-false}
@@ -16,7 +16,7 @@ abbrev Inv-loop : tie.InvT-loop
 Inv-loop sheet size i j₀ j = (headFine sheet i ≡ true) × (zeros (drop j (mask sheet i)) ≡ zeros (drop (barred sheet i) (mask sheet i)))
 
 abbrev μ-loop : tie.MeasureT-loop
-μ-loop sheet size i j₀ j = 128 - j
+μ-loop sheet size i j₀ j = 8 * maskBytes - j
 
 abbrev Inv-records : tie.InvT-records
 Inv-records sheet size i₀ i = (i ≤ size) × Left sheet size i i
@@ -47,6 +47,7 @@ unfolding maskBytes
 add-j c = omega (arith, c .before .passed-from .ensures .within)
 
 loop-less : tie.Need-loop-less Inv-loop μ-loop Inv-records μ-records
+unfolding maskBytes
 loop-less c = omega arith
 
 loop-again : tie.Need-loop-again Inv-loop μ-loop Inv-records μ-records

@@ -4,7 +4,7 @@ use Prim.Native.Nat.{ℕ, _*_, _≤_}
 use lib.ListN.{length}
 use Rattle.meaning.specs.Limits.{stripWidth}
 use Rattle.meaning.specs.Stream.{header}
-use Rattle.stream.proofs.Laying.{word-fits, laid-long, answered-small, answered-long, recorded}
+use Rattle.stream.proofs.Laying.{word-fits, laid-long, answered-long, recorded}
 use borrow.Author.Needs.{needs}
 use Rattle.stream.proofs.record.answer_in.Statement.{statement}
 use Rattle.stream.proofs.record.answer_in.Tie as tie
@@ -40,7 +40,6 @@ put-requires c κs =
     let start = at-decode .before .before .before .before .before .before .before in
     let A = start .args in
     let (l, w) = found-long (at-size-of) in (
-      answered-small (A .n) (A .sheet .now) (A .r) (A .ceiling) (A .word .now) (A .found .now) _ _ (at-decode .decode .ensures) (start .pre .0),
       ap length (at-lay .lay .ensures) ∙ laid-long _ _ l w,
       start .pre .3,
     )

@@ -1,6 +1,6 @@
-use Rattle.stream.proofs.Laying.{small-at, headed}
+use mathlib.Core.List.{flatten}
 use borrow.Author.Needs.{needs}
-use native.Mathlib.Omega.{arith}
+use Rattle.stream.proofs.Laying.{headed}
 use Rattle.stream.proofs.record.head.Statement.{statement}
 use Rattle.stream.proofs.record.head.Tie as tie
 
@@ -10,34 +10,65 @@ numbers-requires c κs = search needs
 array-read-t6 : tie.Need-array-read-t6
 array-read-t6 c = search needs
 
-cast-t7 : tie.Need-cast-t7
-cast-t7 c = omega (arith, small-at (c .before .args .a) _ (c .numbers .ensures) (c .before .pre) 0 (omega arith))
+cast-t8 : tie.Need-cast-t8
+cast-t8 c = search needs
 
-array-read-t10 : tie.Need-array-read-t10
-array-read-t10 c = search needs
+array-read-t11 : tie.Need-array-read-t11
+array-read-t11 c = search needs
 
-cast-t11 : tie.Need-cast-t11
-cast-t11 c = omega (arith, small-at (c .before .args .a) _ (c .numbers .ensures) (c .before .pre) 1 (omega arith))
+cast-t14 : tie.Need-cast-t14
+cast-t14 c = search needs
 
-array-read-t14 : tie.Need-array-read-t14
-array-read-t14 c = search needs
-
-cast-t15 : tie.Need-cast-t15
-cast-t15 c = omega (arith, small-at (c .before .args .a) _ (c .numbers .ensures) (c .before .pre) 2 (omega arith))
-
-array-read-t18 : tie.Need-array-read-t18
-array-read-t18 c = search needs
+array-read-t17 : tie.Need-array-read-t17
+array-read-t17 c = search needs
 
 cast-t19 : tie.Need-cast-t19
-cast-t19 c = omega (arith, small-at (c .before .args .a) _ (c .numbers .ensures) (c .before .pre) 3 (omega arith))
+cast-t19 c = search needs
 
 array-read-t22 : tie.Need-array-read-t22
 array-read-t22 c = search needs
 
-cast-t23 : tie.Need-cast-t23
-cast-t23 c = omega (arith, small-at (c .before .args .a) _ (c .numbers .ensures) (c .before .pre) 4 (omega arith))
+cast-t25 : tie.Need-cast-t25
+cast-t25 c = search needs
+
+array-read-t28 : tie.Need-array-read-t28
+array-read-t28 c = search needs
+
+cast-t30 : tie.Need-cast-t30
+cast-t30 c = search needs
+
+array-read-t33 : tie.Need-array-read-t33
+array-read-t33 c = search needs
+
+cast-t36 : tie.Need-cast-t36
+cast-t36 c = search needs
+
+array-read-t39 : tie.Need-array-read-t39
+array-read-t39 c = search needs
+
+cast-t41 : tie.Need-cast-t41
+cast-t41 c = search needs
+
+array-read-t44 : tie.Need-array-read-t44
+array-read-t44 c = search needs
+
+cast-t47 : tie.Need-cast-t47
+cast-t47 c = search needs
+
+array-read-t50 : tie.Need-array-read-t50
+array-read-t50 c = search needs
+
+cast-t52 : tie.Need-cast-t52
+cast-t52 c = search needs
+
+array-read-t55 : tie.Need-array-read-t55
+array-read-t55 c = search needs
+
+cast-t58 : tie.Need-cast-t58
+cast-t58 c = search needs
 
 returns : tie.Need-returns
+unfolding flatten
 returns c = headed (c .before .args .a) _ (c .numbers .ensures)
 
 pub head-spec : {M : Type 1} → statement M
@@ -46,13 +77,23 @@ head-spec =
     (tie.spec
     numbers-requires
     array-read-t6
-    cast-t7
-    array-read-t10
-    cast-t11
-    array-read-t14
-    cast-t15
-    array-read-t18
+    cast-t8
+    array-read-t11
+    cast-t14
+    array-read-t17
     cast-t19
     array-read-t22
-    cast-t23
+    cast-t25
+    array-read-t28
+    cast-t30
+    array-read-t33
+    cast-t36
+    array-read-t39
+    cast-t41
+    array-read-t44
+    cast-t47
+    array-read-t50
+    cast-t52
+    array-read-t55
+    cast-t58
     returns)

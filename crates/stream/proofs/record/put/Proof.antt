@@ -10,26 +10,26 @@ use native.Mathlib.Omega.{arith}
 use Rattle.stream.proofs.record.put.Statement.{statement}
 use Rattle.stream.proofs.record.put.Tie as tie
 
-header-eight : (c : tie.After-head) → length (c .head .result) ≡ 8
-header-eight c = ap length (c .head .ensures) ∙ header-long (c .before .before .before .args .a)
+header-long-is : (c : tie.After-head) → length (c .head .result) ≡ 16
+header-long-is c = ap length (c .head .ensures) ∙ header-long (c .before .before .before .args .a)
 
 head-requires : tie.Need-head-requires
-head-requires c κs = c .before .before .pre .0
+head-requires c κs = search needs
 
 slice-aggregate-copy : tie.Need-slice-aggregate-copy
-slice-aggregate-copy c = omega (arith, header-eight (c .before))
+slice-aggregate-copy c = omega (arith, header-long-is (c .before))
 
 copy-requires : tie.Need-copy-requires
 unfolding answerBytes stripWidth
-copy-requires c κs = omega (arith, header-eight (c .before .before), c .before .before .before .before .before .pre .2)
+copy-requires c κs = omega (arith, header-long-is (c .before .before), c .before .before .before .before .before .pre .1)
 
 sub-copy : tie.Need-sub-copy
 unfolding answerBytes stripWidth
-sub-copy c = omega (arith, c .before .before .before .before .before .before .before .before .pre .2)
+sub-copy c = omega (arith, c .before .before .before .before .before .before .before .before .pre .1)
 
 part-copy-start : tie.Need-part-copy-start
 unfolding answerBytes stripWidth
-part-copy-start c = omega (arith, c .before .before .before .before .before .before .before .before .pre .2)
+part-copy-start c = omega (arith, c .before .before .before .before .before .before .before .before .pre .1)
 
 part-copy-end : tie.Need-part-copy-end
 part-copy-end c = search needs
@@ -39,7 +39,7 @@ unfolding answerBytes stripWidth
 copy-requires-2 c κs =
     let at-copy = c .before .before .before in
     let start = at-copy .before .before .before .before .before .before in
-    put-room (start .args .strips .now) (at-copy .copy .last .1 .0) 8 (omega (arith, start .pre .1, start .pre .2))
+    put-room (start .args .strips .now) (at-copy .copy .last .1 .0) 16 (omega (arith, start .pre .0, start .pre .1))
 
 same-length : tie.Need-same-length
 same-length c = search needs
@@ -51,7 +51,7 @@ returns c =
     let at-copy = at-copy2 .before .before .before .before in
     let at-head = at-copy .before .before .before in
     let start = at-head .before .before .before in
-    put-whole (at-head .head .result) (start .args .strips .now) (start .args .out .now) _ 8 (header-eight (at-head)) (omega (arith, start .pre .1, start .pre .2)) _ (at-copy .copy .ensures .1) (at-copy2 .copy2 .ensures .1)
+    put-whole (at-head .head .result) (start .args .strips .now) (start .args .out .now) _ 16 (header-long-is (at-head)) (omega (arith, start .pre .0, start .pre .1)) _ (at-copy .copy .ensures .1) (at-copy2 .copy2 .ensures .1)
     ∙ ap (λ (t : List ℕ). t ++ start .args .strips .now) (at-head .head .ensures)
 
 pub put-spec : {M : Type 1} → statement M

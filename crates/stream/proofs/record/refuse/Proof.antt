@@ -18,7 +18,7 @@ put-requires : tie.Need-put-requires
 put-requires c κs =
     let at-blank = c .before .before in
     let start = at-blank .before .before in
-    (start .pre .0, ap length (at-blank .blank .ensures) ∙ length-replicate (3 * stripWidth) 255, start .pre .1)
+    (ap length (at-blank .blank .ensures) ∙ length-replicate (3 * stripWidth) 255, start .pre)
 
 same-length : tie.Need-same-length
 same-length c = search needs

@@ -1,0 +1,42 @@
+use native.Mathlib.Omega.{arith}
+use borrow.Author.Needs.{needs}
+use Rattle.sheet_convert.proofs.Converting.{bad, short, converted}
+use Rattle.sheet_convert.proofs.answer.Statement.{statement}
+use Rattle.sheet_convert.proofs.answer.Tie as tie
+
+check-sheet-requires : tie.Need-check-sheet-requires
+check-sheet-requires c κs = search needs
+
+numbers-requires : tie.Need-numbers-requires
+numbers-requires c κs = search needs
+
+array-read-if1 : tie.Need-array-read-if1
+array-read-if1 c = search needs
+
+returns : tie.Need-returns
+returns c = let A = c .before .before .before .before .before .before .args in bad (A .n) (A .old .now) (A .sheet .now) (A .out .now) (c .before .before .before .before .before .before .pre) _ (c .before .before .check-sheet .ensures) _ (c .before .numbers .ensures) (c .if1 .taken)
+
+returns-2 : tie.Need-returns-2
+returns-2 c = let A = c .before .before .before .before .before .before .before .args in short (A .n) (A .old .now) (A .sheet .now) (A .out .now) (c .before .before .before .before .before .before .before .pre) _ (c .before .before .before .check-sheet .ensures) _ (c .before .before .numbers .ensures) (c .before .if1 .left) (c .if2 .taken)
+
+copy-requires : tie.Need-copy-requires
+copy-requires c κs = search needs
+
+same-length : tie.Need-same-length
+same-length c = search needs
+
+returns-3 : tie.Need-returns-3
+returns-3 c = let A = c .before .before .before .before .before .before .before .before .before .before .before .args in converted (A .n) (A .old .now) (A .sheet .now) (A .out .now) (c .before .before .before .before .before .before .before .before .before .before .before .pre) _ (c .before .before .before .before .before .before .before .check-sheet .ensures) _ (c .before .before .before .before .before .before .numbers .ensures) (c .before .before .before .before .before .if1 .left) (c .before .before .before .before .if2 .left) _ (c .before .before .copy .ensures .1)
+
+pub answer-spec : {M : Type 1} → statement M
+answer-spec =
+    tie.close
+    (tie.spec
+    check-sheet-requires
+    numbers-requires
+    array-read-if1
+    returns
+    returns-2
+    copy-requires
+    same-length
+    returns-3)
