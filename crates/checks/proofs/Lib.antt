@@ -1,4 +1,5 @@
 pub mod Testing
 pub mod Shifting
+pub mod Turning
 pub mod Columns
 pub mod Promise

@@ -1,8 +1,7 @@
 -- The shift register over words, and the loops that run it.
 --     tap-is                   the bits of the word of coefficients are the check polynomial's
 --     fed-is, checks-is        the code's register is the model's, over words
---     fed-tap, fed-kept        one place of the register, by the tap there
---     Shifted, shifted-..      the register with its first words new
+--     fed-tapped, ..-tapped    a shift is a move and then the terms, one by one
 --     Started, started-..      the register with its first words set
 --     Dividing, dividing-..    the free positions of a column, fed so far
 use mathlib.Core.Path.{_≡_, refl, sym, ap, ap₂, _∙_}
@@ -13,12 +12,12 @@ use native.Mathlib.Numerals.{add-one}
 use mathlib.Core.Bool.{Bool, true, false}
 use mathlib.Core.List.{List, [], _∷_, _++_, append-nil, append-assoc}
 use lib.ListN.{length-set, List·getD-append, length, take, drop, getD, set, replicate, length-append, length-map, length-replicate, replicate-append-replicate, drop-of-length-le}
-use lib.Seq.{getD-append-add, getD-drop, getD-at, ext-getD, drop-cons, take-suc, take-suc-set, take-all, append-snoc, set-at, length-take-le}
+use lib.Seq.{getD-at, ext-getD, drop-cons, take-suc-set, take-all}
 use lib.Dec.{eqb, ltb}
 use lib.Bits.{bitXor, xor-zero-r}
 use borrow.Author.Tests.{eqb-true, ltb-true, ltb-false}
 use Rattle.bits.specs.Vectors.{pick, any, tab}
-use Rattle.bits.proofs.Tests.{length-tab, tab-at}
+use Rattle.bits.proofs.Tests.{length-tab, tab-at, tab-below}
 use Rattle.bits.proofs.RowLaws.{row-fit}
 use Rattle.meaning.specs.Limits.{leads}
 use Rattle.meaning.specs.Sheet.{Rule, free, ruleAt, byte}
@@ -26,7 +25,7 @@ use Rattle.meaning.specs.Check.{poly, terms}
 use Rattle.meaning.proofs.Remainder.{length-poly}
 use Rattle.model.specs.Model.{freeOf, sums, scaled, shiftOf, restOf, checks}
 use Rattle.counting.proofs.Counting.{rule-free, rule-frozen}
-use Rattle.checks.specs.Registers.{wordValues, unitWord, column, tapsOf, moved, fedAt, fed, fedAll, remainder}
+use Rattle.checks.specs.Registers.{wordValues, unitWord, column, tapsOf, moved, fedAt, fed, tapped, plusAt, fedAll, remainder}
 
 -- ---- the polynomial
 
@@ -153,62 +152,43 @@ pub length-remainder : (r : ℕ) (sheet : List ℕ) (n : ℕ) (us : List ℕ) (w
 unfolding remainder
 length-remainder r sheet n us w c k = length-fedAll r (replicate r (unitWord c k)) (freeOf (tab n (ruleAt sheet)) (column w n us k)) (length-replicate r (unitWord c k))
 
--- ---- one place of the register, by the tap there
+-- ---- the shift, and then the terms
 
-module _ (r : ℕ) (s : List ℕ) (b o j x : ℕ) (e : x ≡ moved s b j) (t : Bool) (q : t ≡ getD (poly r) j false) where
-  pub fed-tap : t ≡ true → bitXor x o ≡ fedAt r s b o j
-  fed-tap h = ap₂ bitXor e (rw (sym q ∙ h) refl)
-
-  pub fed-kept : t ≡ false → x ≡ fedAt r s b o j
-  fed-kept h = e ∙ sym (xor-zero-r (moved s b j)) ∙ ap (bitXor (moved s b j)) (rw (sym q ∙ h) refl)
-
-pub fed-nothing : (s : List ℕ) (b : ℕ) → length s ≡ 0 → s ≡ fed (length s) s b
+pub fed-tapped : (r : ℕ) (s : List ℕ) (b : ℕ) → length s ≡ r → 0 < r → tapped r (drop 1 s ++ (b ∷ [])) (getD s 0 0) ≡ fed r s b
 unfolding fed
-fed-nothing [] b e = refl
-fed-nothing (x ∷ s) b e = absurd (omega arith)
+fed-tapped r [] b e p = absurd (omega arith)
+fed-tapped r (o ∷ s) b e p =
+    tab-below r (λ (j : ℕ). bitXor (getD (s ++ (b ∷ [])) j 0) (pick (getD (poly r) j false) o 0)) (fedAt r (o ∷ s) b o)
+    (λ j h. ap (λ (x : ℕ). bitXor x (pick (getD (poly r) j false) o 0)) (moved-at 0 o s b j (omega arith)))
 
--- ---- a list that is written from its front on
+pub six-tapped : (s : List ℕ) (o : ℕ) → length s ≡ 6 → plusAt (plusAt s 0 o) 5 o ≡ tapped 6 s o
+unfolding poly
+six-tapped (x₀ ∷ x₁ ∷ x₂ ∷ x₃ ∷ x₄ ∷ x₅ ∷ []) o e = simp xor-zero-r
+six-tapped [] o e = absurd (omega arith)
+six-tapped (x₀ ∷ []) o e = absurd (omega arith)
+six-tapped (x₀ ∷ x₁ ∷ []) o e = absurd (omega arith)
+six-tapped (x₀ ∷ x₁ ∷ x₂ ∷ []) o e = absurd (omega arith)
+six-tapped (x₀ ∷ x₁ ∷ x₂ ∷ x₃ ∷ []) o e = absurd (omega arith)
+six-tapped (x₀ ∷ x₁ ∷ x₂ ∷ x₃ ∷ x₄ ∷ []) o e = absurd (omega arith)
+six-tapped (x₀ ∷ x₁ ∷ x₂ ∷ x₃ ∷ x₄ ∷ x₅ ∷ x₆ ∷ s) o e = absurd (omega arith)
 
-pub fill-next : (l new : List ℕ) (j : ℕ) → j < length l → length new ≡ length l → set (take j new ++ drop j l) j (getD new j 0) ≡ take (j + 1) new ++ drop (j + 1) l
-fill-next l new j h e =
-    rw (add-one j, drop-cons l j 0 h, take-suc new j 0 (omega arith))
-    (set-at (take j new) (getD l j 0) (drop (suc j) l) (getD new j 0) j (length-take-le j new (omega arith)) ∙ sym (append-snoc (take j new) (getD new j 0) (drop (suc j) l)))
+pub eleven-tapped : (s : List ℕ) (o : ℕ) → length s ≡ 11 → plusAt (plusAt (plusAt (plusAt s 0 o) 1 o) 5 o) 10 o ≡ tapped 11 s o
+unfolding poly
+eleven-tapped (x₀ ∷ x₁ ∷ x₂ ∷ x₃ ∷ x₄ ∷ x₅ ∷ x₆ ∷ x₇ ∷ x₈ ∷ x₉ ∷ y₀ ∷ []) o e = simp xor-zero-r
+eleven-tapped (x₀ ∷ []) o e = absurd (omega arith)
+eleven-tapped (x₀ ∷ x₁ ∷ []) o e = absurd (omega arith)
+eleven-tapped (x₀ ∷ x₁ ∷ x₂ ∷ []) o e = absurd (omega arith)
+eleven-tapped (x₀ ∷ x₁ ∷ x₂ ∷ x₃ ∷ []) o e = absurd (omega arith)
+eleven-tapped (x₀ ∷ x₁ ∷ x₂ ∷ x₃ ∷ x₄ ∷ []) o e = absurd (omega arith)
+eleven-tapped (x₀ ∷ x₁ ∷ x₂ ∷ x₃ ∷ x₄ ∷ x₅ ∷ []) o e = absurd (omega arith)
+eleven-tapped (x₀ ∷ x₁ ∷ x₂ ∷ x₃ ∷ x₄ ∷ x₅ ∷ x₆ ∷ []) o e = absurd (omega arith)
+eleven-tapped (x₀ ∷ x₁ ∷ x₂ ∷ x₃ ∷ x₄ ∷ x₅ ∷ x₆ ∷ x₇ ∷ []) o e = absurd (omega arith)
+eleven-tapped (x₀ ∷ x₁ ∷ x₂ ∷ x₃ ∷ x₄ ∷ x₅ ∷ x₆ ∷ x₇ ∷ x₈ ∷ []) o e = absurd (omega arith)
+eleven-tapped (x₀ ∷ x₁ ∷ x₂ ∷ x₃ ∷ x₄ ∷ x₅ ∷ x₆ ∷ x₇ ∷ x₈ ∷ x₉ ∷ []) o e = absurd (omega arith)
+eleven-tapped [] o e = absurd (omega arith)
+eleven-tapped (x₀ ∷ x₁ ∷ x₂ ∷ x₃ ∷ x₄ ∷ x₅ ∷ x₆ ∷ x₇ ∷ x₈ ∷ x₉ ∷ y₀ ∷ y₁ ∷ s) o e = absurd (omega arith)
 
-fill-after : (l new : List ℕ) (j k : ℕ) → j ≤ k → j ≤ length l → length new ≡ length l → getD (take j new ++ drop j l) k 0 ≡ getD l k 0
-fill-after l new j k h i e =
-    let t = length-take-le j new (omega arith) in
-    let q : j + (k - j) ≡ k = omega arith in
-    let p : length (take j new) + (k - j) ≡ k = omega arith in
-    ap (λ (x : ℕ). getD (take j new ++ drop j l) x 0) (sym p) ∙ getD-append-add (take j new) (drop j l) (k - j) 0 ∙ getD-drop j l (k - j) 0 ∙ ap (λ (x : ℕ). getD l x 0) q
-
--- the register s, its first j words new
-pub record Shifted (s : List ℕ) (b : ℕ) (reg : List ℕ) (j : ℕ) : Type 0 where
-  pub some : j ≤ length s
-  pub size : length reg ≡ length s
-  pub is : reg ≡ take j (fed (length s) s b) ++ drop j s
-
-pub shifted-none : (s : List ℕ) (b : ℕ) → Shifted s b s 0
-shifted-none s b = record { some = omega arith; size = refl; is = refl }
-
-pub shifted-next : (s : List ℕ) (b : ℕ) (reg : List ℕ) (j z : ℕ) → Shifted s b reg j → j < length s → z ≡ fedAt (length reg) reg b (getD s 0 0) j → Shifted s b (set reg j z) (j + 1)
-unfolding fed
-shifted-next s b reg j z p h e =
-    let r = length s in
-    let new = fed r s b in
-    let ln : length new ≡ r = length-fed r s b in
-    let mv : getD reg (j + 1) 0 ≡ getD s (j + 1) 0 = ap (λ (l : List ℕ). getD l (j + 1) 0) (p .is) ∙ fill-after s new j (j + 1) (omega arith) (p .some) ln in
-    let v : z ≡ getD new j 0 = e ∙ rw (p .size, mv) (sym (tab-at r (fedAt r s b (getD s 0 0)) j 0 h)) in
-    record {
-      some = omega arith;
-      size = length-set reg j z ∙ p .size;
-      is = ap₂ (λ (l : List ℕ) (x : ℕ). set l j x) (p .is) v ∙ fill-next s new j h ln;
-    }
-
-pub shifted-all : (s : List ℕ) (b : ℕ) (reg : List ℕ) (j : ℕ) → Shifted s b reg j → length s ≤ j → reg ≡ fed (length s) s b
-shifted-all s b reg j p h =
-    let new = fed (length s) s b in
-    let ln : length new ≡ length s = length-fed (length s) s b in
-    p .is ∙ ap₂ (λ (x y : List ℕ). x ++ y) (take-all j new (omega arith)) (drop-of-length-le s {i = j} h) ∙ append-nil new
+-- ---- the register at the start
 
 -- the register, its first j words x
 pub record Started (x : ℕ) (s reg : List ℕ) (j : ℕ) : Type 0 where

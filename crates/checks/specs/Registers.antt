@@ -4,14 +4,16 @@
 --     column w n l k       word k of each of the first n rows of w words
 --     tapsOf r             the coefficients of the check polynomial, bit j for the j-th from D^(r-1) down
 --     fed r s b            the register s of r words once the word b went in
+--     tapped, plusAt       a word added where the polynomial has terms, and at one place
+--     turned p h, slot     a ring of words whose first place is h, and where place j is
 --     fedAll r s v         the same for all words of v
 --     remainder            the register after the free positions of a column
 --     Put, ColumnsUpTo     one column written to rows of w words; the columns below k
 use mathlib.Core.Path.{_≡_}
-use Prim.Native.Nat.{ℕ, _+_, _*_, _<_}
+use Prim.Native.Nat.{ℕ, _+_, _-_, _*_, _<_}
 use mathlib.Core.Bool.{false}
-use mathlib.Core.List.{List, [], _∷_}
-use lib.ListN.{length, getD, replicate}
+use mathlib.Core.List.{List, [], _∷_, _++_}
+use lib.ListN.{length, getD, set, take, drop, replicate}
 use lib.Dec.{eqb, ltb}
 use lib.Bits.{bitXor}
 use Rattle.bits.specs.Vectors.{bit, pick, tab}
@@ -45,6 +47,22 @@ fedAt r s b o j = bitXor (moved s b j) (pick (getD (poly r) j false) o 0)
 
 unfoldable pub fed : ℕ → List ℕ → ℕ → List ℕ
 fed r s b = tab r (fedAt r s b (getD s 0 0))
+
+-- and in two steps: the shift, and the word that went out added to the terms' places
+abbrev pub tapped : ℕ → List ℕ → ℕ → List ℕ
+tapped r s o = tab r (λ (j : ℕ). bitXor (getD s j 0) (pick (getD (poly r) j false) o 0))
+
+abbrev pub plusAt : List ℕ → ℕ → ℕ → List ℕ
+plusAt s j o = set s j (bitXor (getD s j 0) o)
+
+-- ---- the ring: the register starts at place h of p
+
+abbrev pub turned : List ℕ → ℕ → List ℕ
+turned p h = drop h p ++ take h p
+
+-- where its place j is
+unfoldable pub slot : ℕ → ℕ → ℕ → ℕ
+slot r h j = pick (ltb (h + j) r) (h + j) (h + j - r)
 
 abbrev pub fedAll : ℕ → List ℕ → List ℕ → List ℕ
 fedAll r s [] = s

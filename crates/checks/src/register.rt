@@ -1,64 +1,60 @@
-// The check's shift register, over one column of words at a time: XOR of rows goes word by word.
+// The check's shift register, over one column of words at a time: XOR of rows goes word by word. It is a ring, so that a shift
+// moves its first place and not its words.
 ghost use mathlib.Core.Path.{_≡_};
-ghost use mathlib.Core.Bool.{false};
 ghost use Prim.Native.Nat.{_+_, _*_, _<_, _≤_};
-ghost use lib.ListN.{length, getD, replicate};
+ghost use lib.ListN.{length, replicate};
 ghost use Rattle.meaning.specs.Limits.{recordBytes};
 ghost use Rattle.meaning.specs.Sheet.{byte};
-ghost use Rattle.meaning.specs.Check.{poly};
-ghost use Rattle.checks.specs.Registers.{unitWord, tapsOf, moved, fedAt, fed, remainder, Put, ColumnsUpTo};
+ghost use Rattle.checks.specs.Registers.{unitWord, slot, turned, plusAt, tapped, fed, remainder, Put, ColumnsUpTo};
 use super::limits;
 
-// The coefficients of the check polynomial of length r, from D^(r-1) at bit 0 on.
-fn taps(r: usize) -> u64
-    ensures { λ t. ⌜ t ≡ tapsOf r ⌝ }
+// Where place j of the register stands in a ring of r words whose first place is h.
+fn slot(r: usize, h: usize, j: usize) -> usize
+    requires { ⌜ (h < r) × (j ≤ r) × (r ≤ 11) ⌝ }
+    ensures { λ x. ⌜ x ≡ slot r h j ⌝ }
 {
-    match r {
-        6 => 33,
-        11 => 1059,
-        _ => 0,
-    }
+    let x = h + j;
+    if x < r { x } else { x - r }
 }
 
-// Whether the polynomial of length r has the j-th of them.
-fn tap(r: usize, j: usize) -> bool
-    requires { ⌜ (j < r) × (r ≤ 11) ⌝ }
-    ensures { λ t. ⌜ t ≡ getD (poly r) j false ⌝ }
+// Adds o to place j of the ring.
+fn add_at(reg: &mut [u64], h: usize, j: usize, o: u64)
+    requires { ⌜ (h < length (now reg)) × (j < length (now reg)) × (length (now reg) ≤ 11) ⌝ }
+    ensures { λ _. ⌜ turned (now (reg .exit)) h ≡ plusAt (turned (now (reg .entry)) h) j o ⌝ }
 {
-    (taps(r) >> j) % 2 == 1
+    let x = slot(reg.len(), h, j);
+    reg[x] = reg[x] ^ o;
 }
 
-// What stands at place j of the register after a shift that takes b in.
-fn moved(reg: &[u64], b: u64, j: usize) -> u64
-    requires { ⌜ j < length (now reg) ⌝ }
-    ensures { λ x. ⌜ x ≡ moved (now (reg .entry)) b j ⌝ }
+// Adds o wherever the check polynomial of the register's length has a term, from D^(r-1) at place 0 on.
+fn add_taps(reg: &mut [u64], h: usize, o: u64)
+    requires { ⌜ (h < length (now reg)) × (length (now reg) ≤ 11) ⌝ }
+    ensures { λ _. ⌜ turned (now (reg .exit)) h ≡ tapped (length (now (reg .entry))) (turned (now (reg .entry)) h) o ⌝ }
 {
-    if j + 1 < reg.len() { reg[j + 1] } else { b }
-}
-
-// What stands there once o, the word that went out, is subtracted.
-fn fed_at(reg: &[u64], b: u64, o: u64, j: usize) -> u64
-    requires { ⌜ (j < length (now reg)) × (length (now reg) ≤ 11) ⌝ }
-    ensures { λ x. ⌜ x ≡ fedAt (length (now (reg .entry))) (now (reg .entry)) b o j ⌝ }
-{
-    let x = moved(reg, b, j);
-    if tap(reg.len(), j) { x ^ o } else { x }
-}
-
-// Feeds a word to the register.
-fn feed(reg: &mut [u64], b: u64)
-    requires { ⌜ length (now reg) ≤ 11 ⌝ }
-    ensures { λ _. ⌜ now (reg .exit) ≡ fed (length (now (reg .entry))) (now (reg .entry)) b ⌝ }
-{
-    if reg.len() == 0 {
+    let r = reg.len();
+    if r == 6 {
+        add_at(reg, h, 0, o);
+        add_at(reg, h, 5, o);
         return;
     }
-    let o = reg[0];
-    let mut j = 0;
-    while j < reg.len() {
-        reg[j] = fed_at(reg, b, o, j);
-        j += 1;
+    if r == 11 {
+        add_at(reg, h, 0, o);
+        add_at(reg, h, 1, o);
+        add_at(reg, h, 5, o);
+        add_at(reg, h, 10, o);
     }
+}
+
+// Feeds a word to the ring whose first place is h: it takes the place of the word that goes out. Where the first place is then.
+fn feed(reg: &mut [u64], h: usize, b: u64) -> usize
+    requires { ⌜ (h < length (now reg)) × (length (now reg) ≤ 11) ⌝ }
+    ensures { λ g. ⌜ (g < length (now (reg .entry))) × (turned (now (reg .exit)) g ≡ fed (length (now (reg .entry))) (turned (now (reg .entry)) h) b) ⌝ }
+{
+    let o = reg[h];
+    reg[h] = b;
+    let g = slot(reg.len(), h, 1);
+    add_taps(reg, g, o);
+    g
 }
 
 // Byte 0 of record i: 0 for a free position.
@@ -88,28 +84,41 @@ fn start(reg: &mut [u64], x: u64)
 }
 
 // Feeds word k of each free row of `us`. The register starts from the check's leading ones, word k of the constant's row each.
-fn divide(reg: &mut [u64], sheet: &[u8], size: usize, us: &[u64], w: usize, c: usize, k: usize)
+// Where its first place is then.
+fn divide(
+    reg: &mut [u64],
+    sheet: &[u8],
+    size: usize,
+    us: &[u64],
+    w: usize,
+    c: usize,
+    k: usize,
+) -> usize
+    requires { ⌜ 0 < length (now reg) ⌝ }
     requires { ⌜ (length (now reg) ≤ 11) × (size * recordBytes ≤ length (now sheet)) × (length (now us) ≡ size * w) × (k < w) ⌝ }
-    ensures { λ _. ⌜ now (reg .exit) ≡ remainder (length (now (reg .entry))) (now (sheet .entry)) size (now (us .entry)) w c k ⌝ }
+    ensures { λ h. ⌜ (h < length (now (reg .entry))) × (turned (now (reg .exit)) h ≡ remainder (length (now (reg .entry))) (now (sheet .entry)) size (now (us .entry)) w c k) ⌝ }
 {
     start(reg, unit_word(c, k));
+    let mut h = 0;
     let mut i = 0;
     while i < size {
         if kind(sheet, i) == 0 {
-            feed(reg, us[i * w + k]);
+            h = feed(reg, h, us[i * w + k]);
         }
         i += 1;
     }
+    h
 }
 
-// The register becomes word k of each row.
-fn put(out: &mut [u64], w: usize, k: usize, reg: &[u64])
-    requires { ⌜ (length (now out) ≡ length (now reg) * w) × (k < w) ⌝ }
-    ensures { λ _. ⌜ Put w k (now (reg .entry)) (now (out .entry)) (now (out .exit)) ⌝ }
+// The ring whose first place is h becomes word k of each row.
+fn put(out: &mut [u64], w: usize, k: usize, reg: &[u64], h: usize)
+    requires { ⌜ (length (now out) ≡ length (now reg) * w) × (k < w) × (h < length (now reg)) × (length (now reg) ≤ 11) ⌝ }
+    ensures { λ _. ⌜ Put w k (turned (now (reg .entry)) h) (now (out .entry)) (now (out .exit)) ⌝ }
 {
     let mut j = 0;
     while j < reg.len() {
-        out[j * w + k] = reg[j];
+        let x = slot(reg.len(), h, j);
+        out[j * w + k] = reg[x];
         j += 1;
     }
 }
@@ -124,22 +133,26 @@ fn columns(
     c: usize,
     out: &mut [u64],
 )
+    requires { ⌜ 0 < length (now reg) ⌝ }
     requires { ⌜ (length (now reg) ≤ 11) × (size * recordBytes ≤ length (now sheet)) × (length (now us) ≡ size * w) × (length (now out) ≡ length (now reg) * w) ⌝ }
     ensures { λ _. ⌜ ColumnsUpTo (length (now (reg .entry))) w (remainder (length (now (reg .entry))) (now (sheet .entry)) size (now (us .entry)) w c) w (now (out .exit)) ⌝ }
 {
     let mut k = 0;
     while k < w {
-        divide(reg, sheet, size, us, w, c, k);
-        put(out, w, k, reg);
+        let h = divide(reg, sheet, size, us, w, c, k);
+        put(out, w, k, reg, h);
         k += 1;
     }
 }
 
-// The same for a check of length r, with a register of its own.
+// The same for a check of length r, with a register of its own; nothing where there is no check.
 pub fn write(sheet: &[u8], size: usize, us: &[u64], w: usize, c: usize, r: usize, out: &mut [u64])
     requires { ⌜ (r ≤ 11) × (size * recordBytes ≤ length (now sheet)) × (length (now us) ≡ size * w) × (length (now out) ≡ r * w) ⌝ }
     ensures { λ _. ⌜ ColumnsUpTo r w (remainder r (now (sheet .entry)) size (now (us .entry)) w c) w (now (out .exit)) ⌝ }
 {
+    if r == 0 {
+        return;
+    }
     let mut reg: [u64; limits::LONGEST] = [0; limits::LONGEST];
     columns(&mut reg[..r], sheet, size, us, w, c, out);
 }

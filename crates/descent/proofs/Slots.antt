@@ -1,21 +1,24 @@
 -- What part, settle and join do, slot by slot, and the turns of their loops.
---     part-owed, part-none, part-both, part-right     the four cases of two slots h apart
+--     part-owed, part-none, part-known                the cases of two slots h apart
 --     settle-owed, settle-none                        the two cases of a right slot
 --     ..-start, ..-turn, ..-end                       the loops: done below j, as it was from j on
+--     halves-added                                    the right half added to the left half at once
 use mathlib.Core.Path.{_≡_, refl, sym, ap, ap₂, _∙_}
-use mathlib.Core.Logic.{_⊎_, inl, inr}
+use mathlib.Core.Logic.{_⊎_, inl, inr, ⊎-elim}
 use Prim.Native.Nat.{ℕ, zero, suc, _+_, _*_, _≤_, _<_}
 use native.Mathlib.Omega.{arith}
-use native.Mathlib.Nat.{eq-or-lt-of-le}
+use native.Mathlib.Nat.{eq-or-lt-of-le, add-mul}
 use mathlib.Core.List.{List}
 use mathlib.Core.Option.{Option, none, some}
 use lib.ListN.{length, set, getD, length-set}
-use lib.Seq.{paste, getD-set-same, getD-set-other}
-use Rattle.bits.specs.Rows.{Row, _⊻_, row, copiedWithin, addedWithin}
-use Rattle.bits.proofs.RowLaws.{length-⊻, length-row, row-room, row-same, row-other, rows-apart, copiedWithin-fits, addedWithin-fits}
+use lib.Seq.{paste, getD-set-same, getD-set-other, getD-take, ext-getD}
+use lib.Bits.{bitXor}
+use Rattle.bits.specs.Rows.{Row, _⊻_, part, row, copiedWithin, addedWithin}
+use Rattle.bits.proofs.Tests.{eq-or-ne}
+use Rattle.bits.proofs.RowLaws.{length-⊻, getD-⊻, length-part, getD-part, length-written, paste-part, paste-apart, row-fit, length-row, row-room, row-same, row-other, rows-apart, copiedWithin-fits, addedWithin-fits}
 use Rattle.model.specs.Model.{leftSym, rightSym}
 use Rattle.ruling.specs.Values.{rowValues}
-use Rattle.descent.specs.Block.{slotOf, due, symAt, Split, PartOne, Parted, SettleOne, Settled, Joined}
+use Rattle.descent.specs.Block.{slotOf, due, symAt, Paired, Split, PartOne, Parted, SettleOne, Settled, Joined}
 
 -- ---- rows of a block of n slots, copied or added
 
@@ -83,33 +86,31 @@ module _ (w h j : ℕ) (v m : List ℕ) (lm : length m ≡ h + h) (lv : length v
     right-mark = ap (λ (q : List ℕ). getD q (h + j) 0) em ∙ getD-set-same m (h + j) 1 0 (omega arith)
 
     -- both known
-    pub part-both : (getD m′ j 0 ≡ 0 → ⊥) → (v′ : List ℕ) → v′ ≡ addedWithin v (j * w) ((h + j) * w) w → PartOne w h j v m v′ m′
-    part-both l′ v′ cv =
-        let ev = row-added w (h + h) j (h + j) v v′ lv (omega arith) (omega arith) ne cv in
-        let l : getD m j 0 ≡ 0 → ⊥ = λ q. l′ (left-mark ∙ q) in
-        let hj₂ : j < h + h = omega arith in
-        let hi : h + j < h + h = omega arith in
-        let x : Row = row w v j ⊻ row w v (h + j) in
-        let lx : length x ≡ w = length-⊻ (row w v j) (row w v (h + j)) w (length-row w (h + h) v lv j hj₂) (length-row w (h + h) v lv (h + j) hi) in
+    part-both : (getD m j 0 ≡ 0 → ⊥) → PartOne w h j v m v m′
+    part-both l =
         let kj = symbol-known (getD m j 0) (row w v j) l in
         let ki = symbol-known (getD m (h + j) 0) (row w v (h + j)) r in
         record {
           slots = record {
-            left = λ c. symbol-known (getD m′ j 0) (row w v′ j) l′ ∙ ap some (row-same w (h + h) v lv j x v′ hj₂ lx ev) ∙ sym (ap₂ (leftSym (rowValues c w)) kj ki);
-            right = λ c y. rw (right-mark, ki, row-other w (h + h) v lv j x v′ hj₂ lx ev (h + j) (λ q. ne (sym q))) refl;
+            left = λ c. symbol-known (getD m′ j 0) (row w v j ⊻ row w v (h + j)) (λ q. l (sym left-mark ∙ q)) ∙ sym (ap₂ (leftSym (rowValues c w)) kj ki);
+            right = λ c y. rw (right-mark, ki) refl;
           };
-          others = λ i n₁ n₂. (row-other w (h + h) v lv j x v′ hj₂ lx ev i n₁, ap (λ (q : List ℕ). getD q i 0) em ∙ getD-set-other m (h + j) i 1 0 n₂);
+          others = λ i n₁ n₂. (refl, ap (λ (q : List ℕ). getD q i 0) em ∙ getD-set-other m (h + j) i 1 0 n₂);
         }
 
     -- only the right one known
-    pub part-right : getD m′ j 0 ≡ 0 → PartOne w h j v m v m′
-    part-right l′ =
-        let l : getD m j 0 ≡ 0 = sym left-mark ∙ l′ in
+    part-right : getD m j 0 ≡ 0 → PartOne w h j v m v m′
+    part-right l =
+        let l′ : getD m′ j 0 ≡ 0 = left-mark ∙ l in
         let ki = symbol-known (getD m (h + j) 0) (row w v (h + j)) r in
         record {
           slots = record { left = λ c. rw (l′, l) refl; right = λ c y. rw (right-mark, ki) refl };
           others = λ i n₁ n₂. (refl, ap (λ (q : List ℕ). getD q i 0) em ∙ getD-set-other m (h + j) i 1 0 n₂);
         }
+
+    -- the right one known
+    pub part-known : PartOne w h j v m v m′
+    part-known = ⊎-elim part-right part-both (eq-or-ne (getD m j 0) 0)
 
   -- ---- a right slot
 
@@ -135,7 +136,7 @@ pub record Same (w : ℕ) (v m v′ m′ : List ℕ) (i : ℕ) : Type 0 where
   pub mark-is : getD m′ i 0 ≡ getD m i 0
 
 pub record PartUpTo (w h j : ℕ) (v m v′ m′ : List ℕ) : Type 0 where
-  pub done : (i : ℕ) → i < j → Split w h i v m v′ m′
+  pub done : (i : ℕ) → i < j → Paired w h i v m v′ m′
   pub left : (i : ℕ) → j ≤ i → i < h → Same w v m v′ m′ i
   pub right : (i : ℕ) → j ≤ i → i < h → Same w v m v′ m′ (h + i)
 
@@ -159,7 +160,7 @@ part-turn {w} {h} {j} {v} {m} {v′} {m′} {v″} {m″} hj u o =
       right = λ i p q. same-then w v m v′ m′ v″ m″ (h + i) (u .right i (omega arith) q) (o .others (h + i) (λ z. omega arith) (λ z. omega arith));
     }
   where
-    go : (i : ℕ) → (i ≡ j) ⊎ (i < j) → Split w h i v m v″ m″
+    go : (i : ℕ) → (i ≡ j) ⊎ (i < j) → Paired w h i v m v″ m″
     go i (inl e) =
         let sl : symAt w m′ v′ j ≡ symAt w m v j = sym-same w v m v′ m′ j (u .left j (omega arith) hj) in
         let sr : symAt w m′ v′ (h + j) ≡ symAt w m v (h + j) = sym-same w v m v′ m′ (h + j) (u .right j (omega arith) hj) in
@@ -171,12 +172,18 @@ part-turn {w} {h} {j} {v} {m} {v′} {m′} {v″} {m″} hj u o =
         let a = o .others i (λ z. omega arith) (λ z. omega arith) in
         let b = o .others (h + i) (λ z. omega arith) (λ z. omega arith) in
         record {
-          left = λ c. ap₂ slotOf (a .1) (a .0) ∙ u .done i p .left c;
+          left = λ c. ap₂ slotOf (a .1) (ap₂ _⊻_ (a .0) (b .0)) ∙ u .done i p .left c;
           right = λ c x. ap₂ (λ (n : ℕ) (r : Row). due n r x) (b .1) (b .0) ∙ u .done i p .right c x;
         }
 
-pub part-end : {w h j : ℕ} {v m v′ m′ : List ℕ} → h ≤ j → PartUpTo w h j v m v′ m′ → Parted w h v m v′ m′
-part-end p u = record { slots = λ i q. u .done i (omega arith) }
+pub part-end : {w h j : ℕ} {v m v′ m′ v″ : List ℕ} → h ≤ j → PartUpTo w h j v m v′ m′ → Joined w h v′ v″ → Parted w h v m v″ m′
+part-end {w} {h} {j} {v} {m} {v′} {m′} {v″} p u o =
+    record {
+      slots = λ i q. record {
+        left = λ c. ap (slotOf (getD m′ i 0)) (o .left i q) ∙ u .done i (omega arith) .left c;
+        right = λ c x. ap (λ (r : Row). due (getD m′ (h + i) 0) r x) (o .right i q) ∙ u .done i (omega arith) .right c x;
+      };
+    }
 
 pub record SettleUpTo (w h j : ℕ) (v m v′ m′ : List ℕ) : Type 0 where
   pub done : (i : ℕ) → i < j → symAt w m′ v′ (h + i) ≡ due (getD m (h + i) 0) (row w v (h + i)) (row w v i)
@@ -203,37 +210,67 @@ settle-turn {w} {h} {j} {v} {m} {v′} {m′} {v″} {m″} hj u o =
 pub settle-end : {w h j : ℕ} {v m v′ m′ : List ℕ} → h ≤ j → SettleUpTo w h j v m v′ m′ → Settled w h v m v′ m′
 settle-end p u = record { left = u .left; right = λ i q. u .done i (omega arith) }
 
-pub record JoinUpTo (w h j : ℕ) (v v′ : List ℕ) : Type 0 where
-  pub done : (i : ℕ) → i < j → row w v′ i ≡ row w v i ⊻ row w v (h + i)
-  pub left : (i : ℕ) → j ≤ i → i < h → row w v′ i ≡ row w v i
-  pub right : (i : ℕ) → i < h → row w v′ (h + i) ≡ row w v (h + i)
+-- ---- the right half added to the left half, as one row of h * w words
 
-pub join-start : (w h : ℕ) (v : List ℕ) → JoinUpTo w h 0 v v
-join-start w h v = record { done = λ i p. absurd (omega arith); left = λ i p q. refl; right = λ i p. refl }
+module _ (w h : ℕ) (v v′ : List ℕ) (lv : length v ≡ (h + h) * w) (e : v′ ≡ addedWithin v 0 (h * w) (h * w)) where
+  abbrev half : ℕ
+  half = h * w
 
-pub join-turn : {w h j : ℕ} {v v′ v″ : List ℕ} → j < h → length v′ ≡ (h + h) * w → JoinUpTo w h j v v′ → v″ ≡ addedWithin v′ (j * w) ((h + j) * w) w → JoinUpTo w h (j + 1) v v″
-join-turn {w} {h} {j} {v} {v′} {v″} hj lv u cv =
-    record {
-      done = λ i p. go i (below-suc i j p);
-      left = λ i p q. other i (λ z. omega arith) ∙ u .left i (omega arith) q;
-      right = λ i p. other (h + i) (λ z. omega arith) ∙ u .right i p;
-    }
-  where
-    x : Row
-    x = row w v′ j ⊻ row w v′ (h + j)
+  both : length v ≡ half + half
+  both = lv ∙ add-mul h h w
 
-    lx : length x ≡ w
-    lx = length-⊻ (row w v′ j) (row w v′ (h + j)) w (length-row w (h + h) v′ lv j (omega arith)) (length-row w (h + h) v′ lv (h + j) (omega arith))
+  abbrev sum : Row
+  sum = part half 0 v ⊻ part half half v
 
-    e : v″ ≡ paste v′ (j * w) x w
-    e = row-added w (h + h) j (h + j) v′ v″ lv (omega arith) (omega arith) (λ q. omega arith) cv
+  length-sum : length sum ≡ half
+  length-sum = length-⊻ (part half 0 v) (part half half v) half (length-part v 0 half (omega (arith, both))) (length-part v half half (omega (arith, both)))
 
-    other : (i : ℕ) → (i ≡ j → ⊥) → row w v″ i ≡ row w v′ i
-    other i n = row-other w (h + h) v′ lv j x v″ (omega arith) lx e i n
+  written : v′ ≡ paste v 0 sum half
+  written = e ∙ addedWithin-fits v 0 half half (omega (arith, both)) (omega (arith, both)) (inl (omega arith))
 
-    go : (i : ℕ) → (i ≡ j) ⊎ (i < j) → row w v″ i ≡ row w v i ⊻ row w v (h + i)
-    go i (inl q) = rw q (row-same w (h + h) v′ lv j x v″ (omega arith) lx e ∙ ap₂ _⊻_ (u .left j (omega arith) hj) (u .right j hj))
-    go i (inr p) = other i (λ z. omega arith) ∙ u .done i p
+  size : length v′ ≡ (h + h) * w
+  size = ap length written ∙ length-written v sum 0 half (omega (arith, both)) length-sum ∙ lv
 
-pub join-end : {w h j : ℕ} {v v′ : List ℕ} → h ≤ j → JoinUpTo w h j v v′ → Joined w h v v′
-join-end p u = record { left = λ i q. u .done i (omega arith); right = u .right }
+  module _ (j : ℕ) (q : j < h) where
+    here : j * w + w ≤ half
+    here = row-fit j h w q
+
+    there : (h + j) * w ≡ half + j * w
+    there = add-mul h j w
+
+    left-word : (k : ℕ) → k < w → getD (row w v′ j) k 0 ≡ getD (row w v j ⊻ row w v (h + j)) k 0
+    left-word k l =
+        let f = here in
+        getD-part v′ (j * w) w k l
+        ∙ sym (getD-take half v′ (j * w + k) 0 (omega arith))
+        ∙ ap (λ (x : Row). getD x (j * w + k) 0) (ap (part half 0) written ∙ paste-part v sum 0 half (omega (arith, both)) length-sum)
+        ∙ getD-⊻ (part half 0 v) (part half half v) (j * w + k)
+        ∙ ap₂ bitXor (getD-take half v (j * w + k) 0 (omega arith) ∙ sym (getD-part v (j * w) w k l))
+        (getD-part v half half (j * w + k) (omega arith) ∙ ap (λ (i : ℕ). getD v i 0) (let z : half + (j * w + k) ≡ (h + j) * w + k = omega (arith, there) in z) ∙ sym (getD-part v ((h + j) * w) w k l))
+        ∙ sym (getD-⊻ (row w v j) (row w v (h + j)) k)
+
+    right-word : (k : ℕ) → k < w → getD (row w v′ (h + j)) k 0 ≡ getD (row w v (h + j)) k 0
+    right-word k l =
+        let f = here in
+        let z : (h + j) * w + k ≡ half + (j * w + k) = omega (arith, there) in
+        getD-part v′ ((h + j) * w) w k l ∙ ap (λ (i : ℕ). getD v′ i 0) z
+        ∙ sym (getD-part v′ half half (j * w + k) (omega arith))
+        ∙ ap (λ (x : Row). getD x (j * w + k) 0) (ap (part half half) written ∙ paste-apart v sum 0 half (omega (arith, both)) length-sum half (inl (omega arith)))
+        ∙ getD-part v half half (j * w + k) (omega arith) ∙ ap (λ (i : ℕ). getD v i 0) (sym z) ∙ sym (getD-part v ((h + j) * w) w k l)
+
+    wide : (l : List ℕ) → length l ≡ (h + h) * w → (i : ℕ) → i < h + h → length (row w l i) ≡ w
+    wide l ll i p = length-row w (h + h) l ll i p
+
+    left-row : row w v′ j ≡ row w v j ⊻ row w v (h + j)
+    left-row =
+        let a = wide v′ size j (omega arith) in
+        let b = length-⊻ (row w v j) (row w v (h + j)) w (wide v lv j (omega arith)) (wide v lv (h + j) (omega arith)) in
+        ext-getD 0 (row w v′ j) (row w v j ⊻ row w v (h + j)) (a ∙ sym b) (λ k l. left-word k (omega arith))
+
+    right-row : row w v′ (h + j) ≡ row w v (h + j)
+    right-row =
+        let a = wide v′ size (h + j) (omega arith) in
+        ext-getD 0 (row w v′ (h + j)) (row w v (h + j)) (a ∙ sym (wide v lv (h + j) (omega arith))) (λ k l. right-word k (omega arith))
+
+  pub halves-added : Joined w h v v′
+  halves-added = record { left = left-row; right = right-row }

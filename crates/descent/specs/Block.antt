@@ -3,7 +3,7 @@
 --     due                   a right slot once the left half is known. Mark 1: known; above: the left half's row is to be added
 --     walkOf, outOf         the slices as the model's states
 --     decoded               the model at a block
---     Split, .., Prepared   the steps, slot by slot: v and m before, v′ and m′ after
+--     Paired, .., Prepared  the steps, slot by slot: v and m before, v′ and m′ after
 use mathlib.Core.Path.{_≡_}
 use Prim.Native.Nat.{ℕ, zero, suc, _+_, _<_}
 use mathlib.Core.List.{List}
@@ -41,13 +41,18 @@ decoded c w sheet k marks vals s = decode (rowValues c w) (ruleAt sheet) k (syms
 
 -- ---- a block of h and h slots
 
+-- slots j and h + j before the halves are added
+pub record Paired (w h j : ℕ) (v m v′ m′ : List ℕ) : Type 0 where
+  pub left : (c : ℕ) → slotOf (getD m′ j 0) (row w v′ j ⊻ row w v′ (h + j)) ≡ leftSym (rowValues c w) (symAt w m v j) (symAt w m v (h + j))
+  pub right : (c : ℕ) (x : Row) → due (getD m′ (h + j) 0) (row w v′ (h + j)) x ≡ rightSym (rowValues c w) (symAt w m v j) (symAt w m v (h + j)) x
+
 -- slots j and h + j: the left one is known where both are, the right one where one is
 pub record Split (w h j : ℕ) (v m v′ m′ : List ℕ) : Type 0 where
   pub left : (c : ℕ) → symAt w m′ v′ j ≡ leftSym (rowValues c w) (symAt w m v j) (symAt w m v (h + j))
   pub right : (c : ℕ) (x : Row) → due (getD m′ (h + j) 0) (row w v′ (h + j)) x ≡ rightSym (rowValues c w) (symAt w m v j) (symAt w m v (h + j)) x
 
 pub record PartOne (w h j : ℕ) (v m v′ m′ : List ℕ) : Type 0 where
-  pub slots : Split w h j v m v′ m′
+  pub slots : Paired w h j v m v′ m′
   pub others : (i : ℕ) → (i ≡ j → ⊥) → (i ≡ h + j → ⊥) → (row w v′ i ≡ row w v i) × (getD m′ i 0 ≡ getD m i 0)
 
 pub record Parted (w h : ℕ) (v m v′ m′ : List ℕ) : Type 0 where

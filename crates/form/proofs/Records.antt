@@ -1,18 +1,21 @@
 -- A record is fine exactly when its head is and it names no position from the first barred one on; the count of free records, one by one.
-use mathlib.Core.Path.{_≡_, refl, sym, ap, _∙_}
-use Prim.Native.Nat.{ℕ, zero, suc, _+_, _-_, _*_, _/_, _%_, _<_, _≤_}
+use mathlib.Core.Path.{_≡_, refl, sym, ap, subst, _∙_}
+use Prim.Native.Nat.{ℕ, zero, suc, _+_, _-_, _*_, _/_, _%_, _^_, _<_, _≤_}
 use native.Mathlib.Omega.{arith}
 use native.Mathlib.Numerals.{add-one}
-use mathlib.Core.Bool.{Bool, true, false, _&&_, not}
+use mathlib.Core.Bool.{Bool, true, false, _&&_, not, true≢false}
 use mathlib.Core.List.{List, _∷_}
-use lib.ListN.{length, drop, getD, drop-of-length-le}
-use lib.Seq.{drop-cons}
+use lib.ListN.{length, drop, getD, drop-of-length-le, length-drop}
+use lib.Seq.{drop-cons, getD-drop}
+use lib.Pow.{shr-lt}
 use lib.Dec.{eqb, leb}
 use borrow.Author.Tests.{le-leb, lt-leb, eq-eqb, ne-eqb}
 use Rattle.bits.specs.Vectors.{pick, tab, zeros, firstPlace}
-use Rattle.bits.proofs.Tests.{length-tab, tab-at, place-found, place-next, place-end, all-fails, all-next, all-end}
-use Rattle.bits.specs.Words.{bitAt}
-use Rattle.bits.proofs.WordBits.{zero-bit}
+use Rattle.bits.proofs.Tests.{length-tab, tab-at, place-found, place-next, place-end, all-next, all-end, all-at}
+use Rattle.bits.specs.Words.{hasBit}
+use Rattle.bits.proofs.WordBits.{zero-bit, leading-bit}
+use Rattle.masks.specs.Masks.{Spelt}
+use Rattle.masks.proofs.Joining.{shr-bit}
 use Rattle.meaning.specs.Limits.{maskBytes, recordBytes}
 use Rattle.meaning.specs.Sheet.{byte, names, mask, fine, Rule, free, frozen, frees, ruleAt}
 use Rattle.meaning.specs.Answers.{badCheck}
@@ -81,10 +84,7 @@ module _ (s : List ℕ) (i : ℕ) where
   unfolding mask
   mask-at j h = tab-at (8 * maskBytes) (names s i) j false h
 
-  pub named : (j : ℕ) → j < 8 * maskBytes → names s i j ≡ true → zeros (drop j (mask s i)) ≡ false
-  named j h e = all-fails not (mask s i) j false (omega (arith, length-mask)) (ap not (mask-at j h ∙ e))
-
-  pub not-named : (j : ℕ) → j < 8 * maskBytes → names s i j ≡ false → zeros (drop j (mask s i)) ≡ zeros (drop (j + 1) (mask s i))
+  not-named : (j : ℕ) → j < 8 * maskBytes → names s i j ≡ false → zeros (drop j (mask s i)) ≡ zeros (drop (j + 1) (mask s i))
   not-named j h e = rw add-one (all-next not (mask s i) j false (omega (arith, length-mask)) (ap not (mask-at j h ∙ e)))
 
   -- several positions passed over at once
@@ -95,22 +95,43 @@ module _ (s : List ℕ) (i : ℕ) where
       let g : (t : ℕ) → t < k → names s i (j + 1 + t) ≡ false = λ t l. ap (names s i) (let e : j + 1 + t ≡ j + suc t = omega arith in e) ∙ f (suc t) (omega arith) in
       not-named j (omega arith) a ∙ none-named k (j + 1) (omega arith) g ∙ ap (λ (x : ℕ). zeros (drop x (mask s i))) (let e : j + 1 + k ≡ j + suc k = omega arith in e)
 
-  -- a byte of zero names nothing
-  pub byte-passed : (j : ℕ) → j < 8 * maskBytes → byte s i (4 + j / 8) ≡ 0 → Passed s i j (8 - j % 8)
-  unfolding names
-  byte-passed j h e = record {
-    unnamed = λ t l.
-        let q : (j + t) / 8 ≡ j / 8 = omega arith in
-        ap (λ (x : ℕ). eqb (bitAt (byte s i (4 + x)) ((j + t) % 8)) 1) q ∙ ap (λ (x : ℕ). eqb (bitAt x ((j + t) % 8)) 1) e ∙ zero-bit ((j + t) % 8);
+  -- position j + t of the mask, in the word that has position j
+  named-in : (j x t : ℕ) → Spelt s i (j / 64) x → t < 64 - j % 64 → hasBit (x / 2 ^ (j % 64)) t ≡ names s i (j + t)
+  named-in j x t p l =
+      let q : 64 * (j / 64) + (j % 64 + t) ≡ j + t = omega arith in
+      shr-bit x (j % 64) t ∙ p .bits (j % 64 + t) (omega arith) ∙ ap (names s i) q
+
+  -- the rest of a word of the mask is zero: it names nothing
+  pub word-passed : (j x : ℕ) → j < 8 * maskBytes → Spelt s i (j / 64) x → x / 2 ^ (j % 64) ≡ 0 → Passed s i j (64 - j % 64)
+  unfolding maskBytes
+  word-passed j x h p e = record {
+    unnamed = λ t l. sym (named-in j x t p l) ∙ ap (λ (y : ℕ). hasBit y t) e ∙ zero-bit t;
     within = omega arith;
     stopped = λ z. absurd (omega arith);
   }
 
-  pub one-passed : (j : ℕ) → j < 8 * maskBytes → names s i j ≡ false → Passed s i j 1
-  one-passed j h e = record { unnamed = λ t l. ap (names s i) (let q : j + t ≡ j = omega arith in q) ∙ e; within = omega arith; stopped = λ z. absurd (omega arith) }
+  some-named : (j t : ℕ) → j + t < 8 * maskBytes → names s i (j + t) ≡ true → zeros (drop j (mask s i)) ≡ false
+  some-named j t h e = go (zeros (drop j (mask s i))) refl
+    where
+      go : (b : Bool) → zeros (drop j (mask s i)) ≡ b → b ≡ false
+      go false z = refl
+      go true z =
+          let l : t < length (drop j (mask s i)) = simp length-drop (omega (arith, length-mask)) in
+          let n : getD (drop j (mask s i)) t false ≡ true = getD-drop j (mask s i) t false ∙ mask-at (j + t) h ∙ e in
+          absurd (true≢false (sym (all-at not false (drop j (mask s i)) z t l) ∙ ap not n))
 
-  pub none-passed : (j : ℕ) → j < 8 * maskBytes → names s i j ≡ true → Passed s i j 0
-  none-passed j h e = record { unnamed = λ t l. absurd (omega arith); within = omega arith; stopped = λ z. e }
+  -- else its highest bit is a name
+  pub word-stops : (j x : ℕ) → j < 8 * maskBytes → Spelt s i (j / 64) x → (x / 2 ^ (j % 64) ≡ 0 → ⊥) → Passed s i j 0
+  unfolding maskBytes
+  word-stops j x h p n = record {
+    unnamed = λ t l. absurd (omega arith);
+    within = omega arith;
+    stopped = λ z.
+        let e : 64 ≡ 64 - j % 64 + j % 64 = omega arith in
+        let small : x / 2 ^ (j % 64) < 2 ^ (64 - j % 64) = shr-lt (64 - j % 64) (j % 64) (subst (λ (y : ℕ). x < 2 ^ y) e (p .small)) in
+        let (t, k, b, a) = leading-bit (64 - j % 64) (x / 2 ^ (j % 64)) (omega (arith, n)) small in
+        some-named j t (omega arith) (sym (named-in j x t p (omega arith)) ∙ b);
+  }
 
   pub mask-end : (j : ℕ) → 8 * maskBytes ≤ j → zeros (drop j (mask s i)) ≡ true
   mask-end j h = all-end not (mask s i) j (omega (arith, length-mask))

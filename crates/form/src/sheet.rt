@@ -6,7 +6,7 @@ ghost use lib.ListN.{length};
 ghost use lib.Dec.{eqb};
 ghost use Rattle.bits.specs.Vectors.{tab, firstPlace};
 ghost use Rattle.meaning.specs.Limits.{largestN, recordBytes, maskBytes};
-ghost use Rattle.meaning.specs.Sheet.{byte, names, fine};
+ghost use Rattle.meaning.specs.Sheet.{byte, fine};
 ghost use Rattle.meaning.specs.Answers.{badCheck};
 ghost use Rattle.form.specs.Records.{headFine, barred, Passed};
 use meaning::limits;
@@ -27,28 +27,16 @@ pub fn byte_at(sheet: &[u8], i: usize, k: usize) -> u8
     sheet[i * limits::RECORD + k]
 }
 
-// Whether record i names position j: bit j mod 8 of byte 4 + j div 8.
-fn has_name(sheet: &[u8], i: usize, j: usize) -> bool
-    requires { ⌜ (j < 8 * maskBytes) × ((i + 1) * recordBytes ≤ length (now sheet)) ⌝ }
-    ensures { λ r. ⌜ r ≡ names (now (sheet .entry)) i j ⌝ }
-{
-    let b = byte_at(sheet, i, 4 + j / 8);
-    (b >> (j % 8)) % 2 == 1
-}
-
-// How many positions from j on are passed over at once: none where record i names j, the rest of j's byte where that byte
-// names nothing, else j alone.
+// How many positions from j on are passed over at once: the rest of j's word of the mask where record i names none of them,
+// else none.
 fn passed_from(sheet: &[u8], i: usize, j: usize) -> usize
     requires { ⌜ (j < 8 * maskBytes) × ((i + 1) * recordBytes ≤ length (now sheet)) ⌝ }
     ensures { λ r. ⌜ Passed (now (sheet .entry)) i j r ⌝ }
 {
-    if byte_at(sheet, i, 4 + j / 8) == 0 {
-        return 8 - j % 8;
+    if masks::word(sheet, i, j / 64) >> (j % 64) == 0 {
+        return 64 - j % 64;
     }
-    if has_name(sheet, i, j) {
-        return 0;
-    }
-    1
+    0
 }
 
 // Whether the first four bytes of record i keep the rules for records.

@@ -1,25 +1,34 @@
 -- The row of a rule, from the last position that a record can name down to the first, and the row of an unknown.
---     Sum, sum-start, sum-hit, sum-miss, sum-all     the loop over the named positions
+--     Sum, sum-start, sum-hit, sum-miss, sum-skip, sum-next, sum-all     the loop over the named positions
+--     gap-all, gap-some                              the names below a position, by words
 --     rule-one, rule-zero, rule-wide                 the constant added
 --     unknown-made, unknown-none                     the row of an unknown
-use mathlib.Core.Path.{_≡_, refl, sym, ap, ap₂, _∙_}
+use mathlib.Core.Path.{_≡_, refl, sym, ap, ap₂, subst, _∙_}
+use mathlib.Core.Logic.{⊎-elim}
 use Prim.Native.Nat.{ℕ, zero, suc, _+_, _-_, _*_, _/_, _%_, _^_, _≤_, _<_}
 use native.Mathlib.Omega.{arith}
 use native.Mathlib.Nat.{mod-lt, mod-eq-of-lt, pow-le-pow-right}
-use mathlib.Core.Bool.{Bool, true, false}
+use mathlib.Core.Bool.{Bool, true, false, true≢false}
 use mathlib.Core.List.{List, [], _∷_}
 use lib.ListN.{length, drop, set, getD, replicate, length-replicate, length-set}
 use lib.Seq.{paste, set-out}
 use lib.Bits.{bitXor}
+use lib.Count.{leadingZeros}
 use lib.Dec.{eqb}
 use borrow.Author.Tests.{eq-eqb, ne-eqb}
 use Rattle.bits.specs.Vectors.{tab}
 use Rattle.bits.specs.Rows.{Row, _⊻_, part, row, rows, zeroed, added}
+use Rattle.bits.specs.Words.{hasBit}
+use Rattle.bits.proofs.Tests.{le-or-lt}
+use Rattle.bits.proofs.WordBits.{zero-bit, leading-bit}
 use Rattle.bits.proofs.RowLaws.{length-⊻, ⊻-comm, nought-⊻, one-⊻, length-part, getD-part, paste-part, paste-again, paste-set, paste-all, row-fit, length-written, zeroed-fits, added-fits}
 use Rattle.meaning.specs.Limits.{maskBytes}
 use Rattle.meaning.specs.Sheet.{byte, names, mask}
+use Rattle.masks.specs.Masks.{Spelt}
+use Rattle.masks.proofs.Joining.{shl-bit, shl-low}
 use Rattle.model.specs.Model.{gate, named, ruleValue}
 use Rattle.ruling.specs.Values.{unitRow, unknownRow, rowValues}
+use Rattle.ruling.specs.Ruling.{Gap}
 
 -- ---- tables
 
@@ -114,6 +123,60 @@ module _ (w to at : ℕ) (us sheet d₀ : List ℕ) (room : at * w ≤ length us
     sum-miss b =
         let same : (c : ℕ) → namedFrom c w us sheet at (j - 1) ≡ namedFrom c w us sheet at j = λ c. sum-step c false b ∙ nought-⊻ w (namedFrom c w us sheet at j) (s .wide c) in
         record { fit = s .fit; size = s .size; wide = λ c. ap length (same c) ∙ s .wide c; is = λ c. s .is c ∙ ap (λ (y : Row). paste d₀ to y w) (sym (same c)) }
+
+  -- several positions passed over at once
+  pub sum-skip : (k i : ℕ) → i ≤ at → k ≤ i → ((t : ℕ) → t < k → names sheet at (i - suc t) ≡ false) → (d : List ℕ) → Sum w to at i us sheet d₀ d → Sum w to at (i - k) us sheet d₀ d
+  sum-skip zero i a l f d s = subst (λ (x : ℕ). Sum w to at x us sheet d₀ d) (let e : i ≡ i - 0 = omega arith in e) s
+  sum-skip (suc k) i a l f d s =
+      let e : (t : ℕ) → i - 1 - suc t ≡ i - suc (suc t) = λ t. omega arith in
+      let o : i - 1 ≡ i - suc 0 = omega arith in
+      let z : i - 1 - k ≡ i - suc k = omega arith in
+      subst (λ (x : ℕ). Sum w to at x us sheet d₀ d) z
+      (sum-skip k (i - 1) (omega arith) (omega arith) (λ t p. ap (names sheet at) (e t) ∙ f (suc t) (omega arith)) d (sum-miss i (omega arith) a d s (ap (names sheet at) o ∙ f 0 (omega arith))))
+
+  -- and the one below them named
+  pub sum-next : (k i : ℕ) → i ≤ at → suc k ≤ i → Gap sheet at i k → k ≤ (i - 1) % 64 → (d : List ℕ) → Sum w to at i us sheet d₀ d
+      → (d′ : List ℕ) → length d′ ≡ length d → d′ ≡ added d to us ((i - (k + 1)) * w) w → Sum w to at (i - (k + 1)) us sheet d₀ d′
+  sum-next k i a l g h d s d′ n e =
+      let o : i - (k + 1) ≡ i - k - 1 = omega arith in
+      let z : i - suc k ≡ i - k - 1 = omega arith in
+      subst (λ (x : ℕ). Sum w to at x us sheet d₀ d′) (sym o)
+      (sum-hit (i - k) (omega arith) (omega arith) d (sum-skip k i a (omega arith) (g .unnamed) d s) (ap (names sheet at) (sym z) ∙ g .found h) d′ n (e ∙ ap (λ (x : ℕ). added d to us (x * w) w) o))
+
+-- ---- the names below a position, by words
+
+module _ (s : List ℕ) (i j x : ℕ) (p : 0 < j) (sp : Spelt s i ((j - 1) / 64) x) where
+  abbrev top : ℕ
+  top = (j - 1) % 64
+
+  -- the word with position j - 1 at its highest bit
+  abbrev raised : ℕ
+  raised = x * 2 ^ (63 - top) % 2 ^ 64
+
+  below : (t : ℕ) → t ≤ top → hasBit raised (63 - t) ≡ names s i (j - suc t)
+  below t l =
+      let e : 63 - t ≡ 63 - top + (top - t) = omega arith in
+      let q : 64 * ((j - 1) / 64) + (top - t) ≡ j - suc t = omega arith in
+      ap (hasBit raised) e ∙ shl-bit 64 (63 - top) (top - t) x (omega arith) ∙ sp .bits (top - t) (omega arith) ∙ ap (names s i) q
+
+  pub gap-all : raised ≡ 0 → Gap s i j (top + 1)
+  gap-all e = record {
+    within = omega arith;
+    unnamed = λ t l. sym (below t (omega arith)) ∙ ap (λ (y : ℕ). hasBit y (63 - t)) e ∙ zero-bit (63 - t);
+    found = λ l. absurd (omega arith);
+  }
+
+  pub gap-some : (raised ≡ 0 → ⊥) → Gap s i j (leadingZeros 64 raised)
+  gap-some n =
+      let (b, z, on, off) = leading-bit 64 raised (omega (arith, n)) (mod-lt (x * 2 ^ (63 - top)) (omega arith)) in
+      let k : ℕ = leadingZeros 64 raised in
+      let inside : k ≤ top =
+      ⊎-elim (λ (l : 63 - top ≤ b). let m : k ≤ top = omega arith in m) (λ (l : b < 63 - top). absurd (true≢false (sym on ∙ shl-low 64 (63 - top) b x l (omega arith)))) (le-or-lt (63 - top) b) in
+      record {
+        within = omega arith;
+        unnamed = λ t l. sym (below t (omega arith)) ∙ off (63 - t) (omega arith);
+        found = λ l. let e : b ≡ 63 - k = omega arith in sym (below k l) ∙ ap (hasBit raised) (sym e) ∙ on;
+      }
 
 -- ---- the rule's row
 

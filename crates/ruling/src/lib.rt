@@ -10,7 +10,7 @@ ghost use Rattle.meaning.specs.Limits.{recordBytes, maskBytes};
 ghost use Rattle.meaning.specs.Sheet.{byte, mask};
 ghost use Rattle.model.specs.Model.{named, ruleValue};
 ghost use Rattle.ruling.specs.Values.{unknownRow, rowValues};
-ghost use Rattle.ruling.specs.Ruling.{fitting, ruled};
+ghost use Rattle.ruling.specs.Ruling.{fitting, ruled, Gap};
 
 mod record;
 
@@ -28,6 +28,19 @@ pub fn unknown_row(d: &mut [u64], k: usize)
     }
 }
 
+// How many of the positions just below j, in their word of the mask, record `at` does not name.
+fn unnamed_below(sheet: &[u8], at: usize, j: usize) -> usize
+    requires { ⌜ (0 < j) × (j ≤ 8 * maskBytes) × ((at + 1) * recordBytes ≤ length (now sheet)) ⌝ }
+    ensures { λ r. ⌜ Gap (now (sheet .entry)) at j r ⌝ }
+{
+    let top = (j - 1) % 64;
+    let m = masks::word(sheet, at, (j - 1) / 64) << (63 - top);
+    if m == 0 {
+        return top + 1;
+    }
+    u64::leading_zeros(m) as usize
+}
+
 // The sum of the rows before position `at` that its record names.
 fn named_row(d: &mut [u64], to: usize, us: &[u64], sheet: &[u8], at: usize, w: usize)
     requires { ⌜ (to + w ≤ length (now d)) × (at * w ≤ length (now us)) ⌝ }
@@ -37,15 +50,18 @@ fn named_row(d: &mut [u64], to: usize, us: &[u64], sheet: &[u8], at: usize, w: u
     rows::zero(d, to, w);
     let mut j = at;
     while j > 0 {
-        j -= 1;
-        if record::has_name(sheet, at, j) {
+        let k = unnamed_below(sheet, at, j);
+        if (j - 1) % 64 < k {
+            j -= k;
+        } else {
+            j -= k + 1;
             rows::add(d, to, us, j * w, w);
         }
     }
 }
 
 // What the rule of position `at` says, where all is there.
-fn summed(d: &mut [u64], to: usize, us: &[u64], sheet: &[u8], at: usize, c: usize, w: usize)
+pub fn summed(d: &mut [u64], to: usize, us: &[u64], sheet: &[u8], at: usize, c: usize, w: usize)
     requires { ⌜ (to + w ≤ length (now d)) × (at * w ≤ length (now us)) × (c < w) ⌝ }
     requires { ⌜ (at < 8 * maskBytes) × ((at + 1) * recordBytes ≤ length (now sheet)) ⌝ }
     ensures { λ _. ⌜ now (d .exit) ≡ paste (now (d .entry)) to (ruleValue (rowValues c w) (eqb (byte (now (sheet .entry)) at 1) 1) (mask (now (sheet .entry)) at) (rows w at (now (us .entry)))) w ⌝ }

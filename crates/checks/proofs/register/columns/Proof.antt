@@ -1,9 +1,10 @@
 use mathlib.Core.Path.{_≡_, refl, sym, ap, _∙_}
-use Prim.Native.Nat.{ℕ, _-_, _*_, _≤_}
+use Prim.Native.Nat.{ℕ, _-_, _*_, _≤_, _<_}
 use native.Mathlib.Omega.{arith}
 use mathlib.Core.List.{List}
 use lib.ListN.{length}
 use Rattle.checks.specs.Registers.{remainder, ColumnsUpTo}
+use Rattle.checks.proofs.Turning.{length-turned}
 use Rattle.checks.proofs.Columns.{columns-next, columns-last}
 use Rattle.checks.proofs.register.columns.Statement.{statement}
 use Rattle.checks.proofs.register.columns.Tie as tie
@@ -21,13 +22,15 @@ loop-holds c = (omega arith, refl, refl, λ j q hj hq. absurd (omega arith))
 divide-requires : tie.Need-divide-requires Inv-loop μ-loop
 divide-requires c κs =
     let P = c .before .before .before .before .before .before .before .pre in
-    (omega (arith, c .before .before .loop .inv .1, P .0), P .1, P .2, c .before .loop-test .taken)
+    let n = c .before .before .loop .inv .1 in
+    (omega (arith, n, P .0), (omega (arith, n, P .1 .0), P .1 .1, P .1 .2, c .before .loop-test .taken))
 
 put-requires : tie.Need-put-requires Inv-loop μ-loop
 put-requires c κs =
     let S = c .before .before .before .before .before .before .before .before .before .before .before .before in
     let I = c .before .before .before .before .before .before .before .loop .inv in
-    (I .2 ∙ S .pre .3 ∙ ap (λ (x : ℕ). x * S .args .w) (sym (c .before .before .before .before .divide .kept .0 ∙ I .1)), c .before .before .before .before .before .before .loop-test .taken)
+    let D = c .before .before .before .before .divide in
+    (I .2 ∙ S .pre .1 .3 ∙ ap (λ (x : ℕ). x * S .args .w) (sym (D .kept .0 ∙ I .1)), c .before .before .before .before .before .before .loop-test .taken, omega (arith, D .ensures .0, D .kept .0), omega (arith, D .kept .0, I .1, S .pre .1 .0))
 
 add-k : tie.Need-add-k Inv-loop μ-loop
 add-k c = omega arith
@@ -42,8 +45,9 @@ loop-again c =
     let t = c .before .before .before .before .before .before .before .before .before .loop-test .taken in
     let D = c .before .before .before .before .before .before .before .divide in
     let f : ℕ → List ℕ = remainder (length (A .reg .now)) (A .sheet .now) (A .size) (A .us .now) (A .w) (A .c) in
-    let e = D .ensures ∙ ap (λ (r : ℕ). remainder r (A .sheet .now) (A .size) (A .us .now) (A .w) (A .c) (c .before .before .before .before .before .before .before .before .before .before .loop .k)) (I .1) in
-    (omega arith, D .kept .0 ∙ I .1, c .before .before .put .kept .0 ∙ I .2, columns-next _ _ f _ _ _ _ (I .3) (c .before .before .put .ensures) e (D .kept .0 ∙ I .1) t)
+    let e = D .ensures .1 ∙ ap (λ (r : ℕ). remainder r (A .sheet .now) (A .size) (A .us .now) (A .w) (A .c) (c .before .before .before .before .before .before .before .before .before .before .loop .k)) (I .1) in
+    let here : D .result < length (D .last .0) = omega (arith, D .ensures .0, D .kept .0) in
+    (omega arith, D .kept .0 ∙ I .1, c .before .before .put .kept .0 ∙ I .2, columns-next _ _ f _ _ _ _ (I .3) (c .before .before .put .ensures) e (length-turned (D .last .0) (D .result) here ∙ D .kept .0 ∙ I .1) t)
 
 same-length : tie.Need-same-length Inv-loop μ-loop
 same-length c = c .before .loop .inv .1

@@ -1,21 +1,22 @@
-use mathlib.Core.Path.{ap, _∙_}
+use mathlib.Core.Path.{_≡_, refl, sym, ap, ap₂, _∙_}
 use mathlib.Core.Logic.{⊎-elim}
 use mathlib.Core.List.{[]}
-use Prim.Native.Nat.{ℕ, _-_}
+use Prim.Native.Nat.{ℕ, _+_, _-_, _*_, _<_}
 use native.Mathlib.Omega.{arith}
-use lib.ListN.{length}
+use lib.ListN.{length, getD}
 use borrow.Author.Needs.{needs}
 use Rattle.meaning.specs.Limits.{recordBytes, maskBytes}
-use Rattle.checks.specs.Registers.{remainder}
+use Rattle.checks.specs.Registers.{turned, fed, remainder}
+use Rattle.checks.proofs.Turning.{length-turned, turned-none}
 use Rattle.checks.proofs.Shifting.{Dividing, dividing-none, dividing-free, dividing-frozen, dividing-all, column-room, started-own}
 use Rattle.checks.proofs.register.divide.Statement.{statement}
 use Rattle.checks.proofs.register.divide.Tie as tie
 
 abbrev Inv-loop : tie.InvT-loop
-Inv-loop reg₀ sheet size us w c k i₀ reg i = Dividing (length reg₀) sheet size us w c k reg i
+Inv-loop reg₀ sheet size us w c k h₀ i₀ reg h i = (h < length reg₀) × (length reg ≡ length reg₀) × Dividing (length reg₀) sheet size us w c k (turned reg h) i
 
 abbrev μ-loop : tie.MeasureT-loop
-μ-loop reg₀ sheet size us w c k i₀ reg i = size - i
+μ-loop reg₀ sheet size us w c k h₀ i₀ reg h i = size - i
 
 unit-word-requires : tie.Need-unit-word-requires Inv-loop μ-loop
 unit-word-requires c κs = search needs
@@ -26,7 +27,8 @@ start-requires c κs = search needs
 loop-holds : tie.Need-loop-holds Inv-loop μ-loop
 loop-holds c =
     let S = c .before .before .before .before .before .before .before .before in
-    dividing-none _ _ _ _ _ _ _ _ (started-own (length (S .args .reg .now)) _ _ _ (c .before .before .start .ensures) (c .before .before .before .unit-word .ensures))
+    let started = started-own (length (S .args .reg .now)) _ _ _ (c .before .before .start .ensures) (c .before .before .before .unit-word .ensures) in
+    (omega (arith, c .before .before .start .kept .0, S .pre .0), refl, dividing-none _ _ _ _ _ _ _ _ (turned-none _ ∙ started))
 
 kind-requires : tie.Need-kind-requires Inv-loop μ-loop
 unfolding recordBytes maskBytes
@@ -35,29 +37,33 @@ kind-requires c κs = omega arith
 mul-feed : tie.Need-mul-feed Inv-loop μ-loop
 mul-feed c =
     let S = c .before .before .before .before .before .before .before .before .before .before .before .before .before in
-    let f = column-room 0 [] _ (S .args .us .now) (S .args .w) (S .args .c) (S .args .k) (c .before .before .before .before .loop .i) (S .pre .2) (S .pre .3) (c .before .before .before .loop-test .taken) in
+    let f = column-room 0 [] _ (S .args .us .now) (S .args .w) (S .args .c) (S .args .k) (c .before .before .before .before .loop .i) (S .pre .1 .2) (S .pre .1 .3) (c .before .before .before .loop-test .taken) in
     omega (arith, f)
 
 add-feed : tie.Need-add-feed Inv-loop μ-loop
 add-feed c =
     let S = c .before .before .before .before .before .before .before .before .before .before .before .before .before in
-    let f = column-room 0 [] _ (S .args .us .now) (S .args .w) (S .args .c) (S .args .k) (c .before .before .before .before .loop .i) (S .pre .2) (S .pre .3) (c .before .before .before .loop-test .taken) in
+    let f = column-room 0 [] _ (S .args .us .now) (S .args .w) (S .args .c) (S .args .k) (c .before .before .before .before .loop .i) (S .pre .1 .2) (S .pre .1 .3) (c .before .before .before .loop-test .taken) in
     omega (arith, f)
 
 mul-feed-2 : tie.Need-mul-feed-2 Inv-loop μ-loop
 mul-feed-2 c =
     let S = c .before .before .before .before .before .before .before .before .before .before .before .before .before in
-    let f = column-room 0 [] _ (S .args .us .now) (S .args .w) (S .args .c) (S .args .k) (c .before .before .before .before .loop .i) (S .pre .2) (S .pre .3) (c .before .before .before .loop-test .taken) in
+    let f = column-room 0 [] _ (S .args .us .now) (S .args .w) (S .args .c) (S .args .k) (c .before .before .before .before .loop .i) (S .pre .1 .2) (S .pre .1 .3) (c .before .before .before .loop-test .taken) in
     omega (arith, f)
 
 shared-slice-read-feed : tie.Need-shared-slice-read-feed Inv-loop μ-loop
 shared-slice-read-feed c =
     let S = c .before .before .before .before .before .before .before .before .before .before .before .before .before .before in
-    let f = column-room 0 [] _ (S .args .us .now) (S .args .w) (S .args .c) (S .args .k) (c .before .before .before .before .before .loop .i) (S .pre .2) (S .pre .3) (c .before .before .before .before .loop-test .taken) in
+    let f = column-room 0 [] _ (S .args .us .now) (S .args .w) (S .args .c) (S .args .k) (c .before .before .before .before .before .loop .i) (S .pre .1 .2) (S .pre .1 .3) (c .before .before .before .before .loop-test .taken) in
     omega (arith, f)
 
 feed-requires : tie.Need-feed-requires Inv-loop μ-loop
-feed-requires c κs = omega (arith, c .before .before .before .before .before .loop .inv .size)
+feed-requires c κs =
+    let inv = c .before .before .before .before .before .loop .inv in
+    let n = c .before .before .before .before .before .before .before .before .start .kept .0 in
+    let P = c .before .before .before .before .before .before .before .before .before .before .before .before .before .before .pre in
+    (omega (arith, inv .0, inv .1), omega (arith, inv .1, n, P .1 .0))
 
 add-i : tie.Need-add-i Inv-loop μ-loop
 add-i c = omega arith
@@ -68,21 +74,30 @@ loop-less c = omega arith
 loop-again : tie.Need-loop-again Inv-loop μ-loop
 loop-again c =
     let l = c .before .before .before .loop in
+    let inv = l .inv in
+    let A = c .before .before .before .before .before .before .before .before .before .before .before .before .args in
     let K = c .before .kind in
     let t = c .before .before .loop-test .taken in
+    let here : l .h < length (l .reg) = omega (arith, inv .0, inv .1) in
     ⊎-elim
-    (λ x. dividing-free _ _ _ _ _ _ _ _ _ _ (l .inv) t (K .ensures) (x .0 .taken) _ (x .6 ∙ x .3 .ensures))
-    (λ x. rw (x .1) (dividing-frozen _ _ _ _ _ _ _ _ _ _ (l .inv) t (K .ensures) (x .0 .left)))
+    (λ x. (
+      omega (arith, x .7, x .3 .ensures .0, inv .1),
+      ap length (x .6) ∙ x .3 .kept .0 ∙ inv .1,
+      dividing-free _ _ _ _ _ _ _ _ _ _ (inv .2) t (K .ensures) (x .0 .taken) _
+          (ap₂ turned (x .6) (x .7) ∙ x .3 .ensures .1 ∙ ap (λ (n : ℕ). fed n (turned (l .reg) (l .h)) (getD (A .us .now) (l .i * A .w + A .k) 0)) (sym (length-turned (l .reg) (l .h) here))),
+    ))
+    (λ x. (omega (arith, x .2, inv .0), ap length (x .1) ∙ inv .1, rw (x .1, x .2) (dividing-frozen _ _ _ _ _ _ _ _ _ _ (inv .2) t (K .ensures) (x .0 .left))))
     (c .if1 .came)
 
 same-length : tie.Need-same-length Inv-loop μ-loop
-same-length c = c .before .loop .inv .size ∙ c .before .before .before .before .start .kept .0
+same-length c = c .before .loop .inv .1 ∙ c .before .before .before .before .start .kept .0
 
 returns : tie.Need-returns Inv-loop μ-loop
 returns c =
     let A = c .before .before .before .before .before .before .before .before .before .before .args in
-    dividing-all _ _ _ _ _ _ _ _ _ (c .before .loop .inv) (c .loop-test .left)
-    ∙ ap (λ (r : ℕ). remainder r (A .sheet .now) (A .size) (A .us .now) (A .w) (A .c) (A .k)) (c .before .before .before .before .start .kept .0)
+    let n = c .before .before .before .before .start .kept .0 in
+    let inv = c .before .loop .inv in
+    (omega (arith, n, inv .0), dividing-all _ _ _ _ _ _ _ _ _ (inv .2) (c .loop-test .left) ∙ ap (λ (r : ℕ). remainder r (A .sheet .now) (A .size) (A .us .now) (A .w) (A .c) (A .k)) n)
 
 pub divide-spec : {M : Type 1} → statement M
 divide-spec =

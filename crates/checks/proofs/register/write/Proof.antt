@@ -1,31 +1,42 @@
 use mathlib.Core.Path.{sym, ap, _∙_}
-use Prim.Native.Nat.{ℕ, _*_}
+use Prim.Native.Nat.{ℕ, _*_, _<_}
 use native.Mathlib.Omega.{arith}
 use lib.ListN.{replicate}
 use lib.Seq.{length-take-le}
+use borrow.Author.Needs.{needs}
 use Rattle.checks.proofs.Columns.{columns-long}
 use Rattle.checks.proofs.register.write.Statement.{statement}
 use Rattle.checks.proofs.register.write.Tie as tie
 
+returns : tie.Need-returns
+returns c = search needs
+
 array-borrow-prefix-reg : tie.Need-array-borrow-prefix-reg
-array-borrow-prefix-reg c = c .before .before .before .pre .0
+array-borrow-prefix-reg c = search needs
 
 slice-aggregate-columns : tie.Need-slice-aggregate-columns
-slice-aggregate-columns c = sym (length-take-le _ _ (c .before .before .before .before .pre .0))
+slice-aggregate-columns c = sym (length-take-le _ _ (c .before .before .before .before .before .pre .0))
 
 columns-requires : tie.Need-columns-requires
 columns-requires c κs =
-    let S = c .before .before .before .before .before in
+    let S = c .before .before .before .before .before .before in
     let l = length-take-le (S .args .r) (replicate {A = ℕ} 11 0) (S .pre .0) in
-    (omega (arith, l, S .pre .0), S .pre .1, S .pre .2, S .pre .3 ∙ ap (λ (x : ℕ). x * S .args .w) (sym l))
+    let z : 0 < S .args .r = omega arith in
+    (omega (arith, l, z), (omega (arith, l, S .pre .0), S .pre .1, S .pre .2, S .pre .3 ∙ ap (λ (x : ℕ). x * S .args .w) (sym l)))
 
 same-length : tie.Need-same-length
-same-length c = c .before .before .before .columns .kept .1 .1 .1 .1 .1 .1 .0
+same-length c = search needs
 
-returns : tie.Need-returns
-returns c = columns-long _ _ _ _ _ _ _ (c .before .before .before .columns .last .1 .1 .1 .1 .1 .1 .0) (length-take-le _ _ (c .before .before .before .before .before .before .before .before .before .pre .0)) (c .before .before .before .columns .ensures)
+returns-2 : tie.Need-returns-2
+returns-2 c = columns-long _ _ _ _ _ _ _ (c .before .before .before .columns .last .1 .1 .1 .1 .1 .1 .0) (length-take-le _ _ (c .before .before .before .before .before .before .before .before .before .before .pre .0)) (c .before .before .before .columns .ensures)
 
 pub write-spec : {M : Type 1} → statement M
 write-spec =
     tie.close
-    (tie.spec array-borrow-prefix-reg slice-aggregate-columns columns-requires same-length returns)
+    (tie.spec
+    returns
+    array-borrow-prefix-reg
+    slice-aggregate-columns
+    columns-requires
+    same-length
+    returns-2)

@@ -274,8 +274,7 @@ decode-join-requires t c κs =
     let P = p .part in
     let lv₁ = P .kept .0 ∙ e in
     let lm₁ = P .kept .1 .0 ∙ a in
-    let near = S .pre .1 .1 .0 .0 in
-    (c .before .before .before .before .before .before .before .before .vals5 .given .1 ∙ q .settle .kept .0 ∙ q .before .before .before .before .before .before .before .before .before .before .vals3 .given .1 ∙ lv₁ ∙ sym (add-mul h h w), omega arith)
+    c .before .before .before .before .before .before .before .before .vals5 .given .1 ∙ q .settle .kept .0 ∙ q .before .before .before .before .before .before .before .before .before .before .vals3 .given .1 ∙ lv₁ ∙ sym (add-mul h h w)
 
 decode-same-length : (t : ℕ) → decode-lts.Need-same-length (calls t) (decode-at t) decode.Post
 decode-same-length t c = c .before .before .before .before .before .before .position .kept .1 .0

@@ -32,14 +32,17 @@ loop-again c =
     let C = c .before .before .before .before .part-one in
     (omega arith, C .kept .0 ∙ inv .1, C .kept .1 .0 ∙ inv .2, part-turn (c .before .before .before .before .before .before .before .loop-test .taken) (inv .3) (C .ensures))
 
+join-requires : tie.Need-join-requires Inv-loop μ-loop
+join-requires c κs = c .before .before .loop .inv .1 ∙ c .before .before .before .before .before .pre .1
+
 same-length : tie.Need-same-length Inv-loop μ-loop
-same-length c = c .before .loop .inv .1
+same-length c = c .before .before .join .kept .0 ∙ c .before .before .before .before .before .loop .inv .1
 
 same-length-2 : tie.Need-same-length-2 Inv-loop μ-loop
-same-length-2 c = c .before .loop .inv .2
+same-length-2 c = c .before .before .before .before .before .loop .inv .2
 
 returns : tie.Need-returns Inv-loop μ-loop
-returns c = part-end (c .loop-test .left) (c .before .loop .inv .3)
+returns c = part-end (c .before .before .before .before .loop-test .left) (c .before .before .before .before .before .loop .inv .3) (c .before .before .join .ensures)
 
 pub part-spec : {M : Type 1} → statement M
 part-spec =
@@ -52,6 +55,7 @@ part-spec =
     add-j
     loop-less
     loop-again
+    join-requires
     same-length
     same-length-2
     returns)

@@ -3,7 +3,7 @@ use Prim.Native.Nat.{_+_}
 use native.Mathlib.Omega.{arith}
 use lib.ListN.{length-set}
 use Rattle.bits.proofs.RowLaws.{row-fit}
-use Rattle.descent.proofs.Slots.{part-owed, part-none, part-both, part-right}
+use Rattle.descent.proofs.Slots.{part-owed, part-none, part-known}
 use Rattle.descent.proofs.block.part_one.Statement.{statement}
 use Rattle.descent.proofs.block.part_one.Tie as tie
 
@@ -38,22 +38,6 @@ slice-write-marks-2 c = simp length-set (omega arith)
 slice-write-marks-3 : tie.Need-slice-write-marks-3
 slice-write-marks-3 c = omega arith
 
-slice-read-if3 : tie.Need-slice-read-if3
-slice-read-if3 c = simp length-set (omega arith)
-
-mul-add-within : tie.Need-mul-add-within
-mul-add-within c =
-    let A = c .before .before .before .before .before .before .before .args in
-    omega (arith, row-fit (A .j) (A .h + A .h) (A .w) (omega arith))
-
-mul-add-within-2 : tie.Need-mul-add-within-2
-mul-add-within-2 c =
-    let A = c .before .before .before .before .before .before .before .args in
-    omega (arith, row-fit (A .h + A .j) (A .h + A .h) (A .w) (omega arith))
-
-add-within-requires : tie.Need-add-within-requires
-add-within-requires c κs = tt
-
 same-length : tie.Need-same-length
 same-length c = c .before .before .copy-within .kept .0
 
@@ -71,23 +55,12 @@ returns-2 c =
     part-none _ _ _ _ _ (P .0) (P .1) (P .2) (c .before .before .if1 .taken) (c .if2 .left)
 
 same-length-3 : tie.Need-same-length-3
-same-length-3 c = c .before .before .add-within .kept .0
-
-same-length-4 : tie.Need-same-length-4
-same-length-4 c = simp length-set
+same-length-3 c = simp length-set
 
 returns-3 : tie.Need-returns-3
 returns-3 c =
-    let P = c .before .before .before .before .before .before .before .before .before .before .pre in
-    part-both _ _ _ _ _ (P .0) (P .1) (P .2) (c .before .before .before .before .before .before .if1 .left) _ refl (c .before .before .before .before .if3 .taken) _ (c .before .before .add-within .ensures)
-
-same-length-5 : tie.Need-same-length-5
-same-length-5 c = simp length-set
-
-returns-4 : tie.Need-returns-4
-returns-4 c =
-    let P = c .before .before .before .before .before .before .pre in
-    part-right _ _ _ _ _ (P .0) (P .1) (P .2) (c .before .before .if1 .left) _ refl (c .if3 .left)
+    let P = c .before .before .before .before .pre in
+    part-known _ _ _ _ _ (P .0) (P .1) (P .2) (c .if1 .left) _ refl
 
 pub part-one-spec : {M : Type 1} → statement M
 part-one-spec =
@@ -102,16 +75,9 @@ part-one-spec =
     slice-write-marks
     slice-write-marks-2
     slice-write-marks-3
-    slice-read-if3
-    mul-add-within
-    mul-add-within-2
-    add-within-requires
     same-length
     same-length-2
     returns
     returns-2
     same-length-3
-    same-length-4
-    returns-3
-    same-length-5
-    returns-4)
+    returns-3)

@@ -8,7 +8,7 @@ use Rattle.bits.specs.Vectors.{zeros}
 use Rattle.meaning.specs.Limits.{recordBytes, maskBytes}
 use Rattle.meaning.specs.Sheet.{mask}
 use Rattle.form.specs.Records.{headFine, barred}
-use Rattle.form.proofs.Records.{Left, stops, goes-on, ends, head-bad, mask-bad, both-fine, named, none-named, mask-end}
+use Rattle.form.proofs.Records.{Left, stops, goes-on, ends, head-bad, mask-bad, both-fine, none-named, mask-end}
 use Rattle.form.proofs.sheet.first_bad.Statement.{statement}
 use Rattle.form.proofs.sheet.first_bad.Tie as tie
 
@@ -87,7 +87,7 @@ returns-3 c =
     let bit = call .before in
     let inv = bit .before .loop .inv in
     let turn = bit .before .before .before .before .before in
-    stops _ _ _ (turn .records-test .taken) (mask-bad _ _ (sym (inv .1) ∙ named _ _ _ (bit .loop-test .taken) (call .passed-from .ensures .stopped (c .if2 .taken)))) (turn .before .records .inv .1)
+    stops _ _ _ (turn .records-test .taken) (mask-bad _ _ (sym (inv .1) ∙ call .passed-from .ensures .stopped (c .if2 .taken))) (turn .before .records .inv .1)
 
 pub first-bad-spec : {M : Type 1} → statement M
 first-bad-spec =

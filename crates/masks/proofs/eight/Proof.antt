@@ -1,0 +1,25 @@
+use borrow.Author.Needs.{needs}
+use Rattle.masks.proofs.Joining.{side-by-side}
+use Rattle.masks.proofs.eight.Statement.{statement}
+use Rattle.masks.proofs.eight.Tie as tie
+
+add-four : tie.Need-add-four
+add-four c = search needs
+
+four-requires : tie.Need-four-requires
+four-requires c κs = search needs
+
+four-requires-2 : tie.Need-four-requires-2
+four-requires-2 c κs = search needs
+
+mul-result : tie.Need-mul-result
+mul-result c = search needs
+
+add-result : tie.Need-add-result
+add-result c = search needs
+
+returns : tie.Need-returns
+returns c = side-by-side 4 _ _ _ _ (c .before .four .ensures) (c .four2 .ensures)
+
+pub eight-spec : {M : Type 1} → statement M
+eight-spec = tie.close (tie.spec add-four four-requires four-requires-2 mul-result add-result returns)

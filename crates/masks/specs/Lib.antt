@@ -1,0 +1,2 @@
+-- Masks: what a word of a mask says.
+pub mod Masks
