@@ -51,6 +51,7 @@ fn call(
         2 => Reply::Answered(decoder::decode(n, a, r, ceiling, b, out)),
         3 => Reply::Answered(codec::read_back(n, a, r, b, out)),
         4 => Reply::Answered(stream::answer(a, c, b, out)),
+        5 => Reply::Answered(sheet_convert::convert(n, a, out)),
         _ => Reply::Unknown,
     }
 }
