@@ -5,7 +5,6 @@ ghost use Prim.Native.Nat.{_*_, _^_, _≤_, _<_};
 ghost use lib.ListN.{length};
 ghost use Rattle.meaning.specs.Limits.{largestN};
 ghost use Rattle.meaning.specs.Answers.{leaving, decoding};
-ghost use Rattle.counting.specs.Counting.{counting};
 ghost use Rattle.descent.specs.Descending.{widest};
 ghost use Rattle.decoder.specs.Deciding.{decodeFault, deciding, mostWords, Formed};
 
@@ -38,7 +37,7 @@ fn fault(n: usize, sheet: &[u8], r: usize, ceiling: usize, word: &[u8], room: us
     Answer::Done
 }
 
-// `decide`, on slices of N rows of w words, c of them coefficients, for as many unknowns as there are.
+// `decide`, on slices of N rows of w words, c of them coefficients.
 fn answer(
     c: usize,
     w: usize,
@@ -53,10 +52,10 @@ fn answer(
     out: &mut [u8],
 ) -> Answer
     requires { ⌜ Formed n (now sheet) r ceiling (now word) (now out) ⌝ }
-    requires { ⌜ (c < w) × (w ≤ widest) × (ceiling ≤ 64 * c) × (length (now vals) ≡ 2 ^ n * w) × (length (now us) ≡ 2 ^ n * w) × (length (now eqs) ≡ 2 ^ n * w) × (ceiling ≡ counting n (now sheet) (now word)) ⌝ }
+    requires { ⌜ (c < w) × (w ≤ widest) × (ceiling ≤ 64 * c) × (length (now vals) ≡ 2 ^ n * w) × (length (now us) ≡ 2 ^ n * w) × (length (now eqs) ≡ 2 ^ n * w) ⌝ }
     ensures { λ a. ⌜ leaving (now (out .exit)) a ≡ deciding n (now (sheet .entry)) r ceiling (now (word .entry)) (now (out .entry)) ⌝ }
 {
-    match descent::descend_counted(n, sheet, word, ceiling, c, w, vals, us, eqs) {
+    match descent::descend(n, sheet, word, ceiling, c, w, vals, us, eqs) {
         Descent::Misfit => Answer::BadShape,
         Descent::Over { g } => Answer::TooMany { g },
         Descent::Done { g, m } => solving::settle(c, w, n, sheet, r, g, m, us, eqs, vals, out),

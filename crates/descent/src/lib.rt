@@ -1,6 +1,5 @@
 // The decoder's descent: rows of a word's symbols, of u and of the equations, over any number of words to a row.
 ghost use mathlib.Core.Path.{_≡_};
-ghost use Rattle.counting.specs.Counting.{counting};
 ghost use Rattle.descent.specs.Descending.{descended, descending};
 
 mod block;
@@ -56,40 +55,6 @@ pub fn descend(
     let g = counting::unknowns(n, sheet, word);
     if most < g {
         return Descent::Over { g };
-    }
-    let mut marks: [u8; meaning::limits::POSITIONS] = [0; meaning::limits::POSITIONS];
-    let size = word.len();
-    let m = word::run(n, sheet, word, c, w, vals, &mut marks[..size], us, eqs);
-    Descent::Done { g, m }
-}
-
-// The same for a caller that has counted the unknowns: there are g, and as many are allowed.
-pub fn descend_counted(
-    n: usize,
-    sheet: &[u8],
-    word: &[u8],
-    g: usize,
-    c: usize,
-    w: usize,
-    vals: &mut [u64],
-    us: &mut [u64],
-    eqs: &mut [u64],
-) -> Descent
-    requires { ⌜ g ≡ counting n (now sheet) (now word) ⌝ }
-    ensures { λ r. ⌜ descended r (now (vals .exit)) (now (us .exit)) (now (eqs .exit)) ≡ descending n (now (sheet .entry)) (now (word .entry)) g c w (now (vals .entry)) (now (us .entry)) (now (eqs .entry)) ⌝ }
-{
-    if !limits::fits(
-        n,
-        sheet.len(),
-        word.len(),
-        g,
-        c,
-        w,
-        vals.len(),
-        us.len(),
-        eqs.len(),
-    ) {
-        return Descent::Misfit;
     }
     let mut marks: [u8; meaning::limits::POSITIONS] = [0; meaning::limits::POSITIONS];
     let size = word.len();

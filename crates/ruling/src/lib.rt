@@ -61,7 +61,7 @@ fn named_row(d: &mut [u64], to: usize, us: &[u64], sheet: &[u8], at: usize, w: u
 }
 
 // What the rule of position `at` says, where all is there.
-pub fn summed(d: &mut [u64], to: usize, us: &[u64], sheet: &[u8], at: usize, c: usize, w: usize)
+fn summed(d: &mut [u64], to: usize, us: &[u64], sheet: &[u8], at: usize, c: usize, w: usize)
     requires { ⌜ (to + w ≤ length (now d)) × (at * w ≤ length (now us)) × (c < w) ⌝ }
     requires { ⌜ (at < 8 * maskBytes) × ((at + 1) * recordBytes ≤ length (now sheet)) ⌝ }
     ensures { λ _. ⌜ now (d .exit) ≡ paste (now (d .entry)) to (ruleValue (rowValues c w) (eqb (byte (now (sheet .entry)) at 1) 1) (mask (now (sheet .entry)) at) (rows w at (now (us .entry)))) w ⌝ }

@@ -1,4 +1,4 @@
-use Prim.Native.Nat.{_*_}
+use Prim.Native.Nat.{_+_, _*_, _≤_}
 use native.Mathlib.Omega.{arith}
 use lib.ListN.{length}
 use lib.Dec.{eqb}
@@ -7,6 +7,7 @@ use Rattle.meaning.specs.Limits.{maskBytes, recordBytes}
 use Rattle.meaning.specs.Sheet.{byte, mask, ruleAt}
 use Rattle.counting.proofs.Counting.{rule-free, rule-frozen}
 use Rattle.ruling.proofs.Rules.{rule-wide}
+use Rattle.ruling.proofs.Room.{ruled-at}
 use Rattle.descent.proofs.Leaves.{fill-known, fill-free, fill-frozen, next-free}
 use Rattle.descent.proofs.leaf.fill.Statement.{statement}
 use Rattle.descent.proofs.leaf.fill.Tie as tie
@@ -20,23 +21,23 @@ byte-at-requires : tie.Need-byte-at-requires
 unfolding recordBytes maskBytes
 byte-at-requires c κs = omega arith
 
-summed-requires : tie.Need-summed-requires
-summed-requires c κs =
-    let P = c .before .before .before .before .before .before .before .pre in
-    ((omega (arith, P .0 .0), P .0 .1, P .0 .2), P .1 .0)
+rule-row-requires : tie.Need-rule-row-requires
+rule-row-requires c κs = tt
 
 same-length : tie.Need-same-length
-same-length c = c .before .before .summed .kept .0
+same-length c = c .before .before .rule-row .kept .0
 
 returns-2 : tie.Need-returns-2
 returns-2 c =
     let A = c .before .before .before .before .before .before .before .before .before .before .args in
     let P = c .before .before .before .before .before .before .before .before .before .before .pre in
-    let C = c .before .before .summed in
+    let C = c .before .before .rule-row in
     let s = A .sheet .now in
     let b = eqb (byte s (A .at) 1) 1 in
+    let l : 0 + A .w ≤ length (A .vals .now) = omega (arith, P .0 .0) in
     fill-frozen (A .c) (A .w) (A .next) (A .mark) (A .vals .now) (rows (A .w) (A .at) (A .us .now)) (ruleAt s (A .at)) (c .before .before .before .before .before .before .if1 .left) (C .last .0) b (mask s (A .at))
-    (rule-frozen s (A .at) _ (c .before .before .before .before .before .byte-at .ensures) (c .before .before .before .before .if2 .taken)) (P .0 .0) (rule-wide (A .c) (A .w) (A .us .now) (A .at) (P .0 .1) s b) (C .ensures)
+    (rule-frozen s (A .at) _ (c .before .before .before .before .before .byte-at .ensures) (c .before .before .before .before .if2 .taken)) (P .0 .0) (rule-wide (A .c) (A .w) (A .us .now) (A .at) (P .0 .1) s b)
+    (ruled-at (A .vals .now) 0 (A .us .now) s (A .at) (A .c) (A .w) (C .last .0) (C .ensures) (l, P .0 .1, P .0 .2) (P .1 .0))
 
 unknown-row-requires : tie.Need-unknown-row-requires
 unknown-row-requires c κs = tt
@@ -65,7 +66,7 @@ fill-spec =
     (tie.spec
     returns
     byte-at-requires
-    summed-requires
+    rule-row-requires
     same-length
     returns-2
     unknown-row-requires

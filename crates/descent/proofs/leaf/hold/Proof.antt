@@ -1,4 +1,5 @@
 use mathlib.Core.Path.{_∙_}
+use Prim.Native.Nat.{_*_}
 use native.Mathlib.Omega.{arith}
 use lib.ListN.{length}
 use lib.Dec.{eqb}
@@ -7,6 +8,7 @@ use Rattle.meaning.specs.Limits.{maskBytes, recordBytes}
 use Rattle.meaning.specs.Sheet.{byte, mask, ruleAt}
 use Rattle.counting.proofs.Counting.{rule-free, rule-frozen}
 use Rattle.ruling.proofs.Rules.{rule-wide}
+use Rattle.ruling.proofs.Room.{ruled-at}
 use Rattle.descent.proofs.Leaves.{hold-erased, hold-free, hold-room, hold-frozen, few}
 use Rattle.descent.proofs.leaf.hold.Statement.{statement}
 use Rattle.descent.proofs.leaf.hold.Tie as tie
@@ -34,14 +36,8 @@ mul-to c =
     let room = hold-room (A .c) (A .w) (A .e) (A .mark) (A .eqs .now) (A .vals .now) (rows (A .w) (A .at) (A .us .now)) (ruleAt s (A .at)) (c .before .before .if1 .left) (eqb (byte s (A .at) 1) 1) (mask s (A .at)) f (c .before .before .before .before .before .before .before .pre .1 .1) in
     omega arith
 
-summed-requires : tie.Need-summed-requires
-summed-requires c κs =
-    let A = c .before .before .before .before .before .before .before .before .args in
-    let P = c .before .before .before .before .before .before .before .before .pre in
-    let s = A .sheet .now in
-    let f = rule-frozen s (A .at) _ (c .before .before .byte-at .ensures) (c .before .if2 .left) in
-    let room = hold-room (A .c) (A .w) (A .e) (A .mark) (A .eqs .now) (A .vals .now) (rows (A .w) (A .at) (A .us .now)) (ruleAt s (A .at)) (c .before .before .before .if1 .left) (eqb (byte s (A .at) 1) 1) (mask s (A .at)) f (P .1 .1) in
-    ((room, P .0 .1, P .0 .2), P .1 .0)
+rule-row-requires : tie.Need-rule-row-requires
+rule-row-requires c κs = tt
 
 add-requires : tie.Need-add-requires
 add-requires c κs = tt
@@ -56,13 +52,13 @@ add-result c =
     omega arith
 
 same-length : tie.Need-same-length
-same-length c = c .before .before .add .kept .0 ∙ c .before .before .before .before .before .before .summed .kept .0
+same-length c = c .before .before .add .kept .0 ∙ c .before .before .before .before .before .before .rule-row .kept .0
 
 returns-3 : tie.Need-returns-3
 returns-3 c =
     let A = c .before .before .before .before .before .before .before .before .before .before .before .before .before .before .before .args in
     let P = c .before .before .before .before .before .before .before .before .before .before .before .before .before .before .before .pre in
-    let C = c .before .before .before .before .before .before .summed in
+    let C = c .before .before .before .before .before .before .rule-row in
     let D = c .before .before .add in
     let s = A .sheet .now in
     let rs = rows (A .w) (A .at) (A .us .now) in
@@ -70,7 +66,8 @@ returns-3 c =
     let f = rule-frozen s (A .at) _ (c .before .before .before .before .before .before .before .before .before .byte-at .ensures) (c .before .before .before .before .before .before .before .before .if2 .left) in
     let room = hold-room (A .c) (A .w) (A .e) (A .mark) (A .eqs .now) (A .vals .now) rs (ruleAt s (A .at)) (c .before .before .before .before .before .before .before .before .before .before .if1 .left) b (mask s (A .at)) f (P .1 .1) in
     hold-frozen (A .c) (A .w) (A .e) (A .mark) (A .eqs .now) (A .vals .now) rs (ruleAt s (A .at)) (c .before .before .before .before .before .before .before .before .before .before .if1 .left) b (mask s (A .at)) f (C .last .0) (D .last .0) (P .0 .0)
-    (rule-wide (A .c) (A .w) (A .us .now) (A .at) (P .0 .1) s b) room (C .ensures) (D .ensures)
+    (rule-wide (A .c) (A .w) (A .us .now) (A .at) (P .0 .1) s b) room
+    (ruled-at (A .eqs .now) (A .e * A .w) (A .us .now) s (A .at) (A .c) (A .w) (C .last .0) (C .ensures) (room, P .0 .1, P .0 .2) (P .1 .0)) (D .ensures)
 
 pub hold-spec : {M : Type 1} → statement M
 hold-spec =
@@ -80,7 +77,7 @@ hold-spec =
     byte-at-requires
     returns-2
     mul-to
-    summed-requires
+    rule-row-requires
     add-requires
     add-result
     same-length
