@@ -1,11 +1,13 @@
 -- The count of the unknowns by halves.
+--     above-lost, below-read                 one symbol
 --     spread-swapped, spread-kept            two slots h apart
 --     spread-start, spread-turn, spread-end  the loop over both halves
 --     map-tab                                a list by place
 --     rule-free, rule-frozen, first-byte     a record's kind, by its first byte
 --     one-.., counts-one, counts-halves      the count of one position, and of a block by its halves
---     counts-most                            no more than positions
+--     counts-most, counts-none               no more than positions; none where nothing is erased
 --     counts-word                            of a whole word it is the number of unknowns
+--     lost-here, lost-later, lost-end        the search for an erased symbol
 --     load-turn, load-end                    a word copied symbol by symbol
 use mathlib.Core.Path.{_≡_, refl, sym, ap, ap₂, _∙_}
 use mathlib.Core.Logic.{_⊎_, inl, inr}
@@ -13,21 +15,33 @@ use Prim.Native.Nat.{ℕ, zero, suc, _+_, _*_, _^_, _≤_, _<_}
 use native.Mathlib.Omega.{arith}
 use native.Mathlib.Nat.{zero-add, add-zero, eq-or-lt-of-le}
 use native.Mathlib.Numerals.{add-one}
-use mathlib.Core.Bool.{Bool, false, _&&_, _||_}
+use mathlib.Core.Bool.{Bool, true, false, _&&_, _||_}
 use mathlib.Core.List.{List, [], _∷_, _++_, map}
 use lib.ListN.{length, take, drop, set, getD, length-set, length-drop, length-map}
 use lib.Seq.{getD-set-same, getD-set-other, getD-take, getD-drop, length-take-le, take-all, take-suc-set, take-suc}
 use lib.Dec.{eqb}
 use borrow.Author.Tests.{eq-eqb, ne-eqb}
-use Rattle.bits.specs.Vectors.{bit, tab, ones}
-use Rattle.bits.proofs.Tests.{count-append, count-le, length-tab, tab-below, tab-ext, tab-append}
+use Rattle.bits.specs.Vectors.{bit, any, tab, ones}
+use Rattle.bits.proofs.Tests.{or-false-l, or-false-r, count-append, count-le, length-tab, tab-below, tab-ext, tab-append}
 use Rattle.meaning.specs.Limits.{recordBytes}
 use Rattle.meaning.specs.Sheet.{Rule, free, frozen, byte, mask, ruleAt, rules}
 use Rattle.meaning.specs.Codewords.{erased}
 use Rattle.meaning.specs.Open.{either, both, opens, openFree, openAll, unknowns}
-use Rattle.meaning.proofs.Open.{opens-append, length-opens, open-list}
-use Rattle.meaning.proofs.Gap.{length-openFree}
+use Rattle.meaning.proofs.Open.{opens-append, length-opens, ones-opens, open-list}
+use Rattle.meaning.proofs.Gap.{length-openFree, openFree-le}
 use Rattle.counting.specs.Halves.{lostAt, SpreadOne, Spread, rulesFrom, openOne, openFrees}
+
+-- ---- one symbol
+
+pub above-lost : (a : ℕ) → 1 < a → erased a ≡ true
+above-lost zero h = absurd (omega arith)
+above-lost (suc zero) h = absurd (omega arith)
+above-lost (suc (suc a)) h = refl
+
+pub below-read : (a : ℕ) → a ≤ 1 → erased a ≡ false
+below-read zero h = refl
+below-read (suc zero) h = refl
+below-read (suc (suc a)) h = absurd (omega arith)
 
 -- ---- two slots
 
@@ -199,6 +213,16 @@ module _ (sheet : List ℕ) (at k h : ℕ) (m m₁ : List ℕ) (eh : h ≡ 2 ^ k
       ap₂ (λ (x : List Rule) (y : List Bool). ones (openFree x y)) rules-is o ∙ ap ones (openFree-append ks ls (opens k a) (opens k b) n)
       ∙ count-append (λ (x : Bool). x) (openFree ks (opens k a)) (openFree ls (opens k b))
 
+-- nothing is erased: none
+any-ones : (m : List ℕ) → any erased m ≡ false → ones (map erased m) ≡ 0
+any-ones [] h = refl
+any-ones (a ∷ m) h = rw (or-false-l (erased a) (any erased m) h, any-ones m (or-false-r (erased a) (any erased m) h)) refl
+
+pub counts-none : (sheet : List ℕ) (at k : ℕ) (m : List ℕ) → length m ≡ 2 ^ k → any erased m ≡ false → 0 ≡ openFrees sheet at k m
+unfolding openFrees
+counts-none sheet at k m l h =
+    omega (arith, openFree-le (rulesFrom sheet at (length m)) (opens k (map erased m)), ones-opens k (map erased m) (length-map m erased ∙ l), any-ones m h)
+
 -- of a word
 pub counts-word : (sheet word : List ℕ) (n : ℕ) → length word ≡ 2 ^ n → openFrees sheet 0 n word ≡ unknowns n (rules n sheet) word
 unfolding openFrees unknowns openAll rules
@@ -225,20 +249,32 @@ module _ (sheet : List ℕ) (at k s : ℕ) (e : k ≡ byte sheet at 0) where
   one-frozen z = rw (rule-frozen sheet at k e z)
 
   pub one-open : k ≡ 0 → 1 < s → 1 ≡ openOne (ruleAt sheet at) s
-  one-open z h = rw (rule-free sheet at k e z) (go s h)
-    where
-      go : (s : ℕ) → 1 < s → 1 ≡ bit (erased s)
-      go zero p = absurd (omega arith)
-      go (suc zero) p = absurd (omega arith)
-      go (suc (suc s)) p = refl
+  one-open z h = rw (rule-free sheet at k e z) (ap bit (sym (above-lost s h)))
 
   pub one-closed : k ≡ 0 → s ≤ 1 → 0 ≡ openOne (ruleAt sheet at) s
-  one-closed z h = rw (rule-free sheet at k e z) (go s h)
-    where
-      go : (s : ℕ) → s ≤ 1 → 0 ≡ bit (erased s)
-      go zero p = refl
-      go (suc zero) p = refl
-      go (suc (suc s)) p = absurd (omega arith)
+  one-closed z h = rw (rule-free sheet at k e z) (ap bit (sym (below-read s h)))
+
+-- ---- the search for an erased symbol
+
+lost-from : (m : List ℕ) (j : ℕ) → j < length m → any erased (drop j m) ≡ (lostAt m j || any erased (drop (j + 1) m))
+lost-from m j h = rw (add-one j) (go m j h)
+  where
+    go : (m : List ℕ) (j : ℕ) → j < length m → any erased (drop j m) ≡ (lostAt m j || any erased (drop (suc j) m))
+    go [] j h = absurd (omega arith)
+    go (a ∷ m) zero h = refl
+    go (a ∷ m) (suc j) h = go m j (omega arith)
+
+pub lost-here : (m : List ℕ) (j : ℕ) → j < length m → 1 < getD m j 0 → true ≡ any erased (drop j m)
+lost-here m j h p = sym (lost-from m j h ∙ rw (above-lost (getD m j 0) p) refl)
+
+pub lost-later : (m : List ℕ) (j : ℕ) → j < length m → getD m j 0 ≤ 1 → any erased (drop (j + 1) m) ≡ any erased (drop j m)
+lost-later m j h p = sym (lost-from m j h ∙ rw (below-read (getD m j 0) p) refl)
+
+pub lost-end : (m : List ℕ) (j : ℕ) → length m ≤ j → any erased (drop j m) ≡ false
+lost-end [] zero h = refl
+lost-end [] (suc j) h = refl
+lost-end (a ∷ m) zero h = absurd (omega arith)
+lost-end (a ∷ m) (suc j) h = lost-end m j (omega arith)
 
 -- ---- a word copied
 

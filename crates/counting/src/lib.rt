@@ -3,8 +3,10 @@
 ghost use mathlib.Core.Path.{_≡_};
 ghost use Prim.Native.Nat.{_+_, _*_, _^_, _≤_, _<_};
 ghost use lib.ListN.{length};
+ghost use Rattle.bits.specs.Vectors.{any};
 ghost use Rattle.meaning.specs.Limits.{largestN, recordBytes, maskBytes};
 ghost use Rattle.meaning.specs.Sheet.{ruleAt, rules};
+ghost use Rattle.meaning.specs.Codewords.{erased};
 ghost use Rattle.meaning.specs.Open.{unknowns};
 ghost use Rattle.counting.specs.Counting.{shaped, counting};
 ghost use Rattle.counting.specs.Halves.{SpreadOne, Spread, openOne, openFrees};
@@ -59,6 +61,20 @@ fn spread(marks: &mut [u8], h: usize)
     }
 }
 
+// Whether a symbol is erased.
+fn some_lost(marks: &[u8]) -> bool
+    ensures { λ r. ⌜ r ≡ any erased (now (marks .entry)) ⌝ }
+{
+    let mut j = 0;
+    while j < marks.len() {
+        if marks[j] > 1 {
+            return true;
+        }
+        j += 1;
+    }
+    false
+}
+
 // 1 if position `at` is free and its symbol s is erased, else 0.
 fn one(sheet: &[u8], at: usize, s: u8) -> usize
     requires { ⌜ (at + 1) * recordBytes ≤ length (now sheet) ⌝ }
@@ -70,13 +86,15 @@ fn one(sheet: &[u8], at: usize, s: u8) -> usize
     if s > 1 { 1 } else { 0 }
 }
 
-// The open free positions of a block of 2 to the k symbols whose first position is `at`.
+// The open free positions of a block of 2 to the k symbols whose first position is `at`. Where nothing is erased there is none.
 fn block(marks: &mut [u8], sheet: &[u8], at: usize, k: usize) -> usize
     requires { ⌜ (length (now marks) ≡ 2 ^ k) × ((at + length (now marks)) * recordBytes ≤ length (now sheet)) ⌝ }
     ensures { λ r. ⌜ r ≡ openFrees (now (sheet .entry)) at k (now (marks .entry)) ⌝ }
 {
     if k == 0 {
         one(sheet, at, marks[0])
+    } else if !some_lost(marks) {
+        0
     } else {
         let h = marks.len() / 2;
         spread(marks, h);

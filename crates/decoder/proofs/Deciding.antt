@@ -30,7 +30,8 @@ use Rattle.meaning.proofs.Forms.{good, checked-none, worded, worded-none}
 use Rattle.form.proofs.Records.{records-in}
 use Rattle.counting.specs.Counting.{shaped, counting}
 use Rattle.descent.specs.Descending.{widest}
-use Rattle.decoder.specs.Deciding.{decodeFault, deciding, mostWords, Formed}
+use Rattle.decoder.specs.Deciding.{decodeFault, deciding, Formed}
+use Rattle.decoder.specs.Rooms.{mostWords}
 
 -- ---- the fault of form
 
@@ -165,16 +166,17 @@ module _ (n : ℕ) (s : List ℕ) (r c : ℕ) (w out : List ℕ) (F : Formed n s
     unfolding widest largestCeiling
     row-fits = let l = F .low in (omega arith, omega arith, omega arith)
 
-    few-words : g / 64 + 1 + 1 ≤ mostWords
-    unfolding mostWords largestCeiling
-    few-words = let l = F .low in omega arith
+    few-words : g / 64 + 1 + 1 ≤ largestCeiling / 64 + 2
+    few-words = let l = F .low in omega (arith, h)
 
     -- there is room for the rows of N symbols
-    pub within : (k : ℕ) → 2 ^ largestN * mostWords ≤ k → length w * (g / 64 + 1 + 1) ≤ k
-    within k h = le-trans (mul-le-mul (le-trans (le-of-eq (F .symbols)) (pow-mono (F .small))) few-words) h
+    pub within : length w * (g / 64 + 1 + 1) ≤ mostWords
+    unfolding mostWords
+    within = mul-le-mul (le-trans (le-of-eq (F .symbols)) (pow-mono (F .small))) few-words
 
-    pub rows-long : (l : List ℕ) → 2 ^ largestN * mostWords ≤ length l → length (take (length w * (g / 64 + 1 + 1) - 0) l) ≡ 2 ^ n * (g / 64 + 1 + 1)
-    rows-long l h = let k = within (length l) h in simp length-take (omega (arith, k)) ∙ ap (λ (t : ℕ). t * (g / 64 + 1 + 1)) (F .symbols)
+-- the rows of N symbols, of a list with room for them
+pub rows-long : (n c : ℕ) (w l : List ℕ) → length w ≡ 2 ^ n → length w * (c + 1) ≤ length l → length (take (length w * (c + 1) - 0) l) ≡ 2 ^ n * (c + 1)
+rows-long n c w l e h = simp length-take (omega (arith, h)) ∙ ap (λ (t : ℕ). t * (c + 1)) e
 
 -- a list whose rows came back is as long as before
 pub rows-back : (k : ℕ) (l x : List ℕ) → length x ≡ length (take (k - 0) l) → length (x ++ postOf 0 (k - 0) l) ≡ length l

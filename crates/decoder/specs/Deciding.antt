@@ -3,7 +3,6 @@
 --     deciding       what is left once no fault of form is found: too many unknowns, or the verdict
 --     systemRows     the equations of a descent, then those of the check
 --     Settling       what the last step needs of a descent
---     mostWords      the words of a row with room for the most unknowns
 --     Formed         no fault of form: what these refusals leave
 use mathlib.Core.Path.{_≡_}
 use mathlib.Core.Logic.{_⊎_}
@@ -41,11 +40,6 @@ deciding n s r c w out =
 -- on rows of wd words, co of them coefficients
 unfoldable pub systemRows : ℕ → ℕ → ℕ → List ℕ → ℕ → ℕ → List ℕ → List ℕ → List Row
 systemRows co wd n s r m us eqs = rows wd m eqs ++ checks (rowValues co wd) r (rules n s) (rows wd (2 ^ n) us)
-
--- a word for each 64 unknowns, one that may be empty, and one for the constant
-unfoldable pub mostWords : ℕ
-unfolding largestCeiling
-mostWords = largestCeiling / 64 + 2
 
 pub record Formed (n : ℕ) (s : List ℕ) (r c : ℕ) (w out : List ℕ) : Type 0 where
   pub small : n ≤ largestN

@@ -3,19 +3,16 @@
 ghost use mathlib.Core.Path.{_≡_};
 ghost use Prim.Native.Nat.{_*_, _^_, _≤_, _<_};
 ghost use lib.ListN.{length};
-ghost use Rattle.meaning.specs.Limits.{largestN};
 ghost use Rattle.meaning.specs.Answers.{leaving, decoding};
 ghost use Rattle.descent.specs.Descending.{widest};
-ghost use Rattle.decoder.specs.Deciding.{decodeFault, deciding, mostWords, Formed};
+ghost use Rattle.decoder.specs.Deciding.{decodeFault, deciding, Formed};
 
+mod rooms;
 mod solving;
 
 use descent::Descent;
 use meaning::Answer;
 use meaning::limits;
-
-// The words of the rows of N symbols, for the largest N and the most unknowns.
-const WORDS: usize = limits::POSITIONS * (limits::LARGEST_CEILING / 64 + 2);
 
 // The fault of form that decoding is refused for: the sheet's, the word's, the output's or the ceiling's. Done where there is
 // none.
@@ -63,41 +60,16 @@ fn answer(
 }
 
 // Answers where no fault of form is found: too many unknowns, or the verdict. The rows have as many words as the unknowns of
-// this word ask for; the three slices have room for N such rows, for the largest N and the most unknowns.
-fn decide(
-    n: usize,
-    sheet: &[u8],
-    r: usize,
-    ceiling: usize,
-    word: &[u8],
-    vals: &mut [u64],
-    us: &mut [u64],
-    eqs: &mut [u64],
-    out: &mut [u8],
-) -> Answer
+// this word ask for.
+fn decide(n: usize, sheet: &[u8], r: usize, ceiling: usize, word: &[u8], out: &mut [u8]) -> Answer
     requires { ⌜ Formed n (now sheet) r ceiling (now word) (now out) ⌝ }
-    requires { ⌜ (2 ^ largestN * mostWords ≤ length (now vals)) × (2 ^ largestN * mostWords ≤ length (now us)) × (2 ^ largestN * mostWords ≤ length (now eqs)) ⌝ }
     ensures { λ a. ⌜ leaving (now (out .exit)) a ≡ deciding n (now (sheet .entry)) r ceiling (now (word .entry)) (now (out .entry)) ⌝ }
 {
     let g = counting::unknowns(n, sheet, word);
     if ceiling < g {
         return Answer::TooMany { g };
     }
-    let c = g / 64 + 1;
-    let k = word.len() * (c + 1);
-    answer(
-        c,
-        c + 1,
-        n,
-        sheet,
-        r,
-        g,
-        word,
-        &mut vals[0..k],
-        &mut us[0..k],
-        &mut eqs[0..k],
-        out,
-    )
+    rooms::answer(g / 64 + 1, n, sheet, r, g, word, out)
 }
 
 // Says what can be known of a word of N symbols: 0, 1, or 2 where the symbol is erased.
@@ -119,18 +91,5 @@ pub fn decode(
     if !meaning::is_done(a) {
         return a;
     }
-    let mut vals = [0u64; WORDS];
-    let mut us = [0u64; WORDS];
-    let mut eqs = [0u64; WORDS];
-    decide(
-        n,
-        sheet,
-        r,
-        ceiling,
-        word,
-        &mut vals,
-        &mut us,
-        &mut eqs,
-        out,
-    )
+    decide(n, sheet, r, ceiling, word, out)
 }

@@ -106,16 +106,17 @@ d-le-g n ks r w d lk ok e = go (decLt (unknowns n ks w) d)
     go (yes h) = absurd (omega (arith, pow-lt h, at-most n ks r w lk ok))
     go (no h) = omega arith
 
+-- no more than the open positions
+pub openFree-le : (ks : List Rule) (o : List Bool) → ones (openFree ks o) ≤ ones o
+openFree-le [] o = omega arith
+openFree-le (k ∷ ks) [] = omega arith
+openFree-le (free ∷ ks) (b ∷ o) = omega (arith, openFree-le ks o)
+openFree-le (frozen c m ∷ ks) (b ∷ o) = omega (arith, openFree-le ks o)
+
 -- g is at most the number of erased symbols
 pub g-le-erased : (n : ℕ) (ks : List Rule) (w : List ℕ) → length w ≡ 2 ^ n → unknowns n ks w ≤ ones (map erased w)
 unfolding unknowns openAll
-g-le-erased n ks w l = rw (open-list n (map erased w) (length-map w erased ∙ l)) (omega (arith, sub ks (opens n (map erased w)), ones-opens n (map erased w) (length-map w erased ∙ l)))
-  where
-    sub : (ks : List Rule) (o : List Bool) → ones (openFree ks o) ≤ ones o
-    sub [] o = omega arith
-    sub (k ∷ ks) [] = omega arith
-    sub (free ∷ ks) (b ∷ o) = omega (arith, sub ks o)
-    sub (frozen c m ∷ ks) (b ∷ o) = omega (arith, sub ks o)
+g-le-erased n ks w l = rw (open-list n (map erased w) (length-map w erased ∙ l)) (omega (arith, openFree-le ks (opens n (map erased w)), ones-opens n (map erased w) (length-map w erased ∙ l)))
 
 -- where nothing is lost, g is 0
 pub nothing-lost : (n : ℕ) (ks : List Rule) (x : List Bool) → length x ≡ 2 ^ n → unknowns n ks (map bit x) ≡ 0

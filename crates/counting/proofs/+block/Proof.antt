@@ -4,16 +4,18 @@ use native.Mathlib.Omega.{arith}
 use lib.ListN.{length, take, drop, length-take, length-drop}
 use lib.Seq.{length-take-le}
 use borrow.Author.Needs.{needs}
+use borrow.Author.Tests.{not-true}
 use Rattle.meaning.specs.Limits.{maskBytes, recordBytes}
 use Rattle.counting.specs.Halves.{openFrees}
 use Rattle.bits.proofs.Parts.{half-of, from-back}
-use Rattle.counting.proofs.Counting.{counts-one, counts-most, counts-halves}
+use Rattle.counting.proofs.Counting.{counts-one, counts-most, counts-none, counts-halves}
 use borrow.Fn.Kinds.{In}
 use borrow.Fn.PlainCycle.{Measures, is, falls, and}
 use Rattle.counting.proofs.block.Reads as block
 use Rattle.counting.proofs.block.Kinds as block-kinds
 use Rattle.counting.proofs.+block.Lts-block as block-lts
 use Rattle.counting.proofs.one.Reads as one-reads
+use Rattle.counting.proofs.some_lost.Reads as lost-reads
 use Rattle.counting.proofs.spread.Reads as spread-reads
 use Rattle.counting.proofs.+block.{statement}
 use Rattle.counting.proofs.+block.Tie.{close}
@@ -32,6 +34,8 @@ abbrev calls : (t : ℕ) → block-lts.Claims
 calls t = (
   one-reads.Asked,
   one-reads.Learnt,
+  lost-reads.Asked,
+  lost-reads.Learnt,
   spread-reads.Asked,
   spread-reads.Learnt,
   block-below t,
@@ -45,9 +49,12 @@ block-one-requires : (t : ℕ) → block-lts.Need-one-requires (calls t) (block-
 unfolding recordBytes maskBytes
 block-one-requires t c κs = let e : length (c .before .before .before .before .args .marks .now) ≡ 1 = c .before .before .before .before .pre .1 .0 ∙ ap (λ (x : ℕ). 2 ^ x) (c .before .if1 .taken) in omega arith
 
+block-some-lost-requires : (t : ℕ) → block-lts.Need-some-lost-requires (calls t) (block-at t) block.Post
+block-some-lost-requires t c κs = tt
+
 block-spread-requires : (t : ℕ) → block-lts.Need-spread-requires (calls t) (block-at t) block.Post
 block-spread-requires t c κs =
-    let E = c .before in
+    let E = c .before .before .before .before in
     let S = E .before .before .before in
     let m₀ = S .args .marks .now in
     let h = length m₀ / 2 in
@@ -63,13 +70,13 @@ block-slice-aggregate-block t c =
     simp length-take (omega arith)
 
 block-sub-block : (t : ℕ) → block-lts.Need-sub-block (calls t) (block-at t) block.Post
-block-sub-block t c = omega (arith, c .before .before .before .before .before .if1 .left)
+block-sub-block t c = omega (arith, c .before .before .before .before .before .before .before .before .if1 .left)
 
 block-block-requires : (t : ℕ) → block-lts.Need-block-requires (calls t) (block-at t) block.Post
 unfolding recordBytes maskBytes
 block-block-requires t c κs =
     let p = c .before .before .before in
-    let E = p .before .before in
+    let E = p .before .before .before .before .before in
     let S = E .before .before .before in
     let m₀ = S .args .marks .now in
     let h = length m₀ / 2 in
@@ -98,17 +105,17 @@ block-part-block-end t c = omega arith
 
 block-add-block : (t : ℕ) → block-lts.Need-add-block (calls t) (block-at t) block.Post
 unfolding recordBytes maskBytes
-block-add-block t c = omega (arith, c .before .before .before .before .before .before .before .before .before .before .before .before .pre .1 .1)
+block-add-block t c = omega (arith, c .before .before .before .before .before .before .before .before .before .before .before .before .before .before .before .pre .1 .1)
 
 block-sub-block-3 : (t : ℕ) → block-lts.Need-sub-block-3 (calls t) (block-at t) block.Post
-block-sub-block-3 t c = omega (arith, c .before .before .before .before .before .before .before .before .before .if1 .left)
+block-sub-block-3 t c = omega (arith, c .before .before .before .before .before .before .before .before .before .before .before .before .if1 .left)
 
 block-block-requires-2 : (t : ℕ) → block-lts.Need-block-requires-2 (calls t) (block-at t) block.Post
 unfolding recordBytes maskBytes
 block-block-requires-2 t c κs =
     let d = c .before .before .before in
     let p = d .before .before .before .before in
-    let E = p .before .before in
+    let E = p .before .before .before .before .before in
     let S = E .before .before .before in
     let m₀ = S .args .marks .now in
     let h = length m₀ / 2 in
@@ -132,7 +139,7 @@ block-add-result t c =
     let R = r .block2 in
     let d = r .before .before .before .before in
     let p = d .before .before .before .before in
-    let E = p .before .before in
+    let E = p .before .before .before .before .before in
     let S = E .before .before .before in
     let m₀ = S .args .marks .now in
     let h = length m₀ / 2 in
@@ -163,11 +170,20 @@ block-same-length t c = search needs
 
 block-returns-2 : (t : ℕ) → block-lts.Need-returns-2 (calls t) (block-at t) block.Post
 block-returns-2 t c =
+    let S = c .before .before .before .before .before .before in
+    let A = S .args in
+    counts-none (A .sheet .now) (A .at) (A .k) (A .marks .now) (S .pre .1 .0) (sym (c .before .some-lost .ensures) ∙ not-true _ (c .if2 .taken))
+
+block-same-length-2 : (t : ℕ) → block-lts.Need-same-length-2 (calls t) (block-at t) block.Post
+block-same-length-2 t c = search needs
+
+block-returns-3 : (t : ℕ) → block-lts.Need-returns-3 (calls t) (block-at t) block.Post
+block-returns-3 t c =
     let r = c .before .before in
     let R = r .block2 in
     let d = r .before .before .before .before in
     let p = d .before .before .before .before in
-    let E = p .before .before in
+    let E = p .before .before .before .before .before in
     let S = E .before .before .before in
     let m₀ = S .args .marks .now in
     let h = length m₀ / 2 in
@@ -193,6 +209,7 @@ pub +block-spec : {M : Type 1} → statement M
     block.Post
     (block-slice-read-one t)
     (block-one-requires t)
+    (block-some-lost-requires t)
     (block-spread-requires t)
     (block-slice-relend-prefix-block t)
     (block-slice-aggregate-block t)
@@ -208,3 +225,5 @@ pub +block-spec : {M : Type 1} → statement M
     (block-returns t)
     (block-same-length t)
     (block-returns-2 t)
+    (block-same-length-2 t)
+    (block-returns-3 t)

@@ -1,7 +1,5 @@
 use borrow.Author.Tests.{not-true, not-false}
 use borrow.Author.Needs.{needs}
-use Rattle.meaning.specs.Limits.{largestN, largestCeiling}
-use Rattle.decoder.specs.Deciding.{mostWords}
 use Rattle.decoder.proofs.Deciding.{decode-refused, decode-passed, decode-decided}
 use Rattle.decoder.proofs.decode.Statement.{statement}
 use Rattle.decoder.proofs.decode.Tie as tie
@@ -15,28 +13,18 @@ is-done-requires c κs = search needs
 returns : tie.Need-returns
 returns c = decode-refused _ _ _ _ _ _ _ (c .before .before .fault .ensures) _ (c .before .is-done .ensures) (not-true _ (c .if1 .taken))
 
-slice-aggregate-decide : tie.Need-slice-aggregate-decide
-slice-aggregate-decide c = search needs
-
-slice-aggregate-decide-2 : tie.Need-slice-aggregate-decide-2
-slice-aggregate-decide-2 c = search needs
-
-slice-aggregate-decide-3 : tie.Need-slice-aggregate-decide-3
-slice-aggregate-decide-3 c = search needs
-
 decide-requires : tie.Need-decide-requires
-unfolding largestN mostWords largestCeiling
 decide-requires c κs =
-    let test = c .before .before .before .before in
-    (decode-passed _ _ _ _ _ _ _ (test .before .before .fault .ensures) _ (test .before .is-done .ensures) (not-false _ (test .if1 .left)), search needs)
+    let test = c .before in
+    decode-passed _ _ _ _ _ _ _ (test .before .before .fault .ensures) _ (test .before .is-done .ensures) (not-false _ (test .if1 .left))
 
 same-length : tie.Need-same-length
 same-length c = search needs
 
 returns-2 : tie.Need-returns-2
 returns-2 c =
-    let done = c .before .before .before .before .before in
-    let test = done .before .before .before .before .before in
+    let done = c .before .before in
+    let test = done .before .before in
     decode-decided _ _ _ _ _ _ _ (test .before .before .fault .ensures) _ (test .before .is-done .ensures) (not-false _ (test .if1 .left)) _ (done .decide .ensures)
 
 pub decode-spec : {M : Type 1} → statement M
@@ -46,9 +34,6 @@ decode-spec =
     fault-requires
     is-done-requires
     returns
-    slice-aggregate-decide
-    slice-aggregate-decide-2
-    slice-aggregate-decide-3
     decide-requires
     same-length
     returns-2)
