@@ -7,6 +7,9 @@
 --     length-wordBits, wordBits-tab     the vector of the lowest bits
 --     odd-wordBits           the parity of an AND by it
 --     join-bits, join-lt     two words side by side
+--     low-bit, high-bit      a bit of two words side by side
+--     shr-bit, shl-bit, shl-low     a bit of a shifted word
+--     same-bits              words with the same bits are equal
 use mathlib.Core.Path.{_≡_, refl, sym, ap, ap₂, _∙_}
 use mathlib.Core.Logic.{⊎-elim}
 use Prim.Native.Nat.{ℕ, zero, suc, _+_, _*_, _-_, _/_, _%_, _^_, _≤_, _<_}
@@ -16,7 +19,7 @@ use mathlib.Core.Bool.{Bool, true, false, _&&_, true≢false}
 use mathlib.Core.List.{List, _∷_, _++_}
 use lib.ListN.{length}
 use lib.Arith.{lt-one}
-use lib.Pow.{pow-pos, pow-mono, pow-add, shl-shr}
+use lib.Pow.{pow-pos, pow-mono, pow-add, high, low, field, mod-mod-pow, shr-shr, shl-shr}
 use lib.Bits.{bitAnd, bitXor, and-zero-r}
 use lib.Count.{ones, ones-step, leadingZeros, leading-top}
 use lib.Dec.{eqb}
@@ -130,3 +133,46 @@ pub join-lt : (n m a b : ℕ) → a < 2 ^ n → b < 2 ^ m → a + b * 2 ^ n < 2 
 join-lt n m a b ha hb =
     let l : (b + 1) * 2 ^ n ≤ 2 ^ m * 2 ^ n = mul-le-mul-right (2 ^ n) (omega arith) in
     rw (pow-add 2 n m) (omega (arith, l))
+
+-- ---- a bit of a cut, a joined and a shifted word
+
+-- bit j of the e lowest bits
+cut-bit : (e j n : ℕ) → j < e → hasBit (n % 2 ^ e) j ≡ hasBit n j
+cut-bit e j n l =
+    let d : ℕ = e - suc j in
+    let s : d + 1 + j ≡ e = omega arith in
+    let f : n % 2 ^ e / 2 ^ j ≡ n / 2 ^ j % 2 ^ (d + 1) = ap (λ (x : ℕ). n % 2 ^ x / 2 ^ j) (sym s) ∙ field n (d + 1) j in
+    ap (λ (x : ℕ). eqb x 1) (ap (λ (x : ℕ). x % 2) f ∙ mod-mod-pow (n / 2 ^ j) d 1)
+
+pub low-bit : (e j a b : ℕ) → a < 2 ^ e → j < e → hasBit (b * 2 ^ e + a) j ≡ hasBit a j
+low-bit e j a b h l = sym (cut-bit e j (b * 2 ^ e + a) l) ∙ ap (λ (x : ℕ). hasBit x j) (low b e h)
+
+pub shr-bit : (n e t : ℕ) → hasBit (n / 2 ^ e) t ≡ hasBit n (e + t)
+shr-bit n e t = ap (λ (x : ℕ). eqb (x % 2) 1) (shr-shr n e t)
+
+pub high-bit : (e t a b : ℕ) → a < 2 ^ e → hasBit (b * 2 ^ e + a) (e + t) ≡ hasBit b t
+high-bit e t a b h = sym (shr-bit (b * 2 ^ e + a) e t) ∙ ap (λ (x : ℕ). hasBit x t) (high b e h)
+
+-- a word shifted up by e, of which the n lowest bits are left
+pub shl-bit : (n e t x : ℕ) → e + t < n → hasBit (x * 2 ^ e % 2 ^ n) (e + t) ≡ hasBit x t
+shl-bit n e t x l = cut-bit n (e + t) (x * 2 ^ e) l ∙ sym (shr-bit (x * 2 ^ e) e t) ∙ ap (λ (y : ℕ). hasBit y t) (shl-shr x e)
+
+pub shl-low : (n e p x : ℕ) → p < e → e ≤ n → hasBit (x * 2 ^ e % 2 ^ n) p ≡ false
+shl-low n e p x h l =
+    let z : x * 2 ^ e ≡ x * 2 ^ e + 0 = omega arith in
+    cut-bit n p (x * 2 ^ e) (omega arith) ∙ ap (λ (y : ℕ). hasBit y p) z ∙ low-bit e p 0 x (pow-pos e) h ∙ zero-bit p
+
+-- ---- the bits say the word
+
+pub same-bits : (n a b : ℕ) → a < 2 ^ n → b < 2 ^ n → ((j : ℕ) → j < n → hasBit a j ≡ hasBit b j) → a ≡ b
+same-bits zero a b ha hb h = omega arith
+same-bits (suc n) a b ha hb h =
+    let half = same-bits n (a / 2) (b / 2) (omega arith) (omega arith) (λ j l. ap (λ (x : ℕ). eqb x 1) (sym (bit-suc a j)) ∙ h (suc j) (omega arith) ∙ ap (λ (x : ℕ). eqb x 1) (bit-suc b j)) in
+    let low = low-same (a % 2) (b % 2) (mod-two a) (mod-two b) (ap (λ (x : ℕ). eqb (x % 2) 1) (sym (div-one a)) ∙ h 0 (omega arith) ∙ ap (λ (x : ℕ). eqb (x % 2) 1) (div-one b)) in
+    omega arith
+  where
+    low-same : (p q : ℕ) → p < 2 → q < 2 → eqb p 1 ≡ eqb q 1 → p ≡ q
+    low-same p q hp hq =
+        bit-cases (λ p. eqb p 1 ≡ eqb q 1 → p ≡ q)
+        (bit-cases (λ q. eqb 0 1 ≡ eqb q 1 → 0 ≡ q) (λ e. refl) (λ e. absurd (true≢false (sym e))) q hq)
+        (bit-cases (λ q. eqb 1 1 ≡ eqb q 1 → 1 ≡ q) (λ e. absurd (true≢false e)) (λ e. refl) q hq) p hp

@@ -1,7 +1,7 @@
 -- Packed values: counting a mask against them gives the parity of the named positions, and one value more can be put in.
 --     parity-bits    the count of common ones of two words, at any width
 --     word-more      the first k words: one more; all-words: all of them
---     byte-more      the first c bytes of a word of the mask: one more
+--     word-bits      the bits of a word of the mask
 --     odd-held       what the values hold decides
 --     holds-more     one value more
 use mathlib.Core.Path.{_≡_, refl, sym, ap, ap₂, _∙_}
@@ -25,9 +25,10 @@ use Rattle.bits.proofs.Words.{bit-cases, mod-two, xor-bit}
 use Rattle.bits.proofs.Tests.{and-false, length-tab, tab-at, tab-below, tab-append}
 use Rattle.bits.proofs.WordBits.{hasBit-xor, zero-bit, bit-same, bit-other, odd-wordBits, wordBits-tab, join-bits, join-lt}
 use Rattle.meaning.specs.Limits.{maskBytes}
-use Rattle.meaning.specs.Sheet.{byte, names, mask}
+use Rattle.meaning.specs.Sheet.{names, mask}
 use Rattle.meaning.specs.Answers.{isOne}
-use Rattle.codec.specs.Packed.{maskWords, maskWord, valueAt, held, Holds, put}
+use Rattle.masks.specs.Masks.{maskWords, Spelt}
+use Rattle.codec.specs.Packed.{valueAt, held, Holds, put}
 
 -- ---- two words
 
@@ -78,43 +79,9 @@ pub all-words : (s : List ℕ) (i : ℕ) (v : List ℕ) → length v ≡ maskWor
 unfolding mask held
 all-words s i v h = ap₂ (λ (n l : ℕ). odd (tab n (names s i)) (tab (64 * l) (valueAt v))) whole-mask (sym h)
 
--- ---- a word of the mask, byte by byte
-
--- x holds c bytes of record i's mask, from byte 8 k on
-pub record Bytes (s : List ℕ) (i k c x : ℕ) : Type 0 where
-  pub few : c ≤ 8
-  pub small : x < 2 ^ (8 * c)
-  pub bits : wordBits (8 * c) x ≡ tab (8 * c) (λ (t : ℕ). names s i (64 * k + t))
-
-pub bytes-fit : (s : List ℕ) (i k c x : ℕ) → Bytes s i k c x → x < 2 ^ 64
-bytes-fit s i k c x p = lt-of-lt-of-le (p .small) (pow-mono {i = 8 * c} {j = 64} (omega (arith, p .few)))
-
-pub no-bytes : (s : List ℕ) (i k : ℕ) → Bytes s i k 0 0
-unfolding wordBits
-no-bytes s i k = record { few = omega arith; small = omega arith; bits = refl }
-
-pub eight-bytes : (s : List ℕ) (i k c x : ℕ) → 8 ≤ c → Bytes s i k c x → wordBits 64 x ≡ maskWord s i k
-unfolding maskWord
-eight-bytes s i k c x h p =
-    let e : 8 * c ≡ 64 = omega (arith, p .few) in
-    rw e at (p .bits)
-
-module _ (s : List ℕ) (i k c x b : ℕ) where
-  pub byte-more : c < 8 → b ≡ byte s i (4 + (8 * k + c)) → b < 2 ^ 8 → Bytes s i k c x → Bytes s i k (c + 1) (x + b * 2 ^ (8 * c) % 2 ^ 64)
-  unfolding names
-  byte-more h e hb p =
-      let n : 8 * (c + 1) ≡ 8 * c + 8 = omega arith in
-      let f : ℕ → Bool = λ t. names s i (64 * k + t) in
-      let own : wordBits 8 b ≡ tab 8 (λ (t : ℕ). f (8 * c + t)) =
-      wordBits-tab 8 b ∙ tab-below 8 (hasBit b) (λ (t : ℕ). f (8 * c + t)) (λ t l.
-      let q : (64 * k + (8 * c + t)) / 8 ≡ 8 * k + c = omega arith in
-      let r : (64 * k + (8 * c + t)) % 8 ≡ t = omega arith in
-      rw (q, r, e)) in
-      rw (shl-exact 8 (8 * c) 64 hb (omega arith)) (record {
-        few = omega arith;
-        small = rw n (join-lt (8 * c) 8 x b (p .small) hb);
-        bits = rw n (join-bits (8 * c) 8 x b (p .small) ∙ ap₂ (λ (l r : List Bool). l ++ r) (p .bits) own ∙ sym (tab-append (8 * c) 8 f));
-      })
+-- the bits of a word of the mask
+pub word-bits : (s : List ℕ) (i k x : ℕ) → Spelt s i k x → wordBits 64 x ≡ tab 64 (λ (t : ℕ). names s i (64 * k + t))
+word-bits s i k x p = wordBits-tab 64 x ∙ tab-below 64 (hasBit x) (λ (t : ℕ). names s i (64 * k + t)) (p .bits)
 
 -- ---- the values
 

@@ -21,7 +21,8 @@ use Rattle.meaning.specs.Check.{freeBits}
 use Rattle.meaning.specs.Payload.{place}
 use Rattle.meaning.specs.Answers.{isOne}
 use Rattle.division.proofs.Division.{bit-small}
-use Rattle.codec.specs.Packed.{maskWords, held, Holds, put}
+use Rattle.masks.specs.Masks.{maskWords}
+use Rattle.codec.specs.Packed.{held, Holds, put}
 use Rattle.codec.specs.Ready.{AreBits}
 use Rattle.codec.proofs.Packing.{holds-none, put-length, holds-more, odd-held}
 

@@ -1,25 +1,15 @@
 -- Values of positions, packed into words of 64 bits so that a record's mask can be counted against them word by word.
---     maskWords         words of a record's mask
---     maskWord s i k    word k of record i's mask: whether it names position 64 k and the 63 after it
 --     held v            the values that packed words hold: of position j, bit j mod 64 of word j div 64
 --     Holds v c         they are those of c, and 0 past its end
 --     put v i b         the words with b put in for position i, whose bit was 0
 use mathlib.Core.Path.{_≡_}
-use Prim.Native.Nat.{ℕ, _+_, _*_, _/_, _%_, _^_}
+use Prim.Native.Nat.{ℕ, _*_, _/_, _%_, _^_}
 use mathlib.Core.Bool.{Bool, false}
 use mathlib.Core.List.{List}
 use lib.ListN.{length, getD, set}
 use lib.Bits.{bitXor}
 use Rattle.bits.specs.Vectors.{tab}
 use Rattle.bits.specs.Words.{hasBit}
-use Rattle.meaning.specs.Limits.{maskBytes}
-use Rattle.meaning.specs.Sheet.{names}
-
-abbrev pub maskWords : ℕ
-maskWords = maskBytes / 8
-
-unfoldable pub maskWord : List ℕ → ℕ → ℕ → List Bool
-maskWord s i k = tab 64 (λ (t : ℕ). names s i (64 * k + t))
 
 abbrev pub valueAt : List ℕ → ℕ → Bool
 valueAt v j = hasBit (getD v (j / 64) 0) (j % 64)

@@ -5,18 +5,15 @@ ghost use Prim.Native.Nat.{_+_, _*_, _^_, _<_, _≤_};
 ghost use lib.ListN.{length};
 ghost use lib.Dec.{eqb};
 ghost use Rattle.bits.specs.Vectors.{_⊕_, bit, tab, odd};
-ghost use Rattle.bits.specs.Words.{wordBits};
 ghost use Rattle.meaning.specs.Limits.{recordBytes, maskBytes};
 ghost use Rattle.meaning.specs.Sheet.{byte, mask, ruleAt, frees};
 ghost use Rattle.meaning.specs.Check.{freeBits};
 ghost use Rattle.meaning.specs.Payload.{place};
 ghost use Rattle.meaning.specs.Answers.{isOne};
-ghost use Rattle.codec.specs.Packed.{maskWords, maskWord, held, put};
+ghost use Rattle.masks.specs.Masks.{maskWords};
+ghost use Rattle.codec.specs.Packed.{held, put};
 ghost use Rattle.codec.specs.Ready.{AreBits, Tells};
 use meaning::limits;
-
-// Words of 64 bits of a record's mask, and of the values that it is counted against.
-const WORDS: usize = limits::MASK / 8;
 
 // Byte k of record i.
 fn byte_at(sheet: &[u8], i: usize, k: usize) -> u8
@@ -33,20 +30,6 @@ fn wide(x: u8) -> u64
     x as u64
 }
 
-// Word k of record i's mask: eight of its bytes, the first lowest.
-fn mask_word(sheet: &[u8], i: usize, k: usize) -> u64
-    requires { ⌜ (k < maskWords) × ((i + 1) * recordBytes ≤ length (now sheet)) ⌝ }
-    ensures { λ r. ⌜ wordBits 64 r ≡ maskWord (now (sheet .entry)) i k ⌝ }
-{
-    let mut x: u64 = 0;
-    let mut c = 0;
-    while c < 8 {
-        x = x + (wide(byte_at(sheet, i, 4 + (8 * k + c))) << (8 * c));
-        c += 1;
-    }
-    x
-}
-
 // 1 if an odd number of the positions that record i names hold 1, else 0: the count of ones of mask and value words.
 fn odd_named(sheet: &[u8], i: usize, values: &[u64]) -> u8
     requires { ⌜ ((i + 1) * recordBytes ≤ length (now sheet)) × (length (now values) ≡ maskWords) ⌝ }
@@ -54,8 +37,8 @@ fn odd_named(sheet: &[u8], i: usize, values: &[u64]) -> u8
 {
     let mut o: u8 = 0;
     let mut k = 0;
-    while k < WORDS {
-        o = o ^ bits::parity(mask_word(sheet, i, k), values[k]);
+    while k < masks::WORDS {
+        o = o ^ bits::parity(masks::word(sheet, i, k), values[k]);
         k += 1;
     }
     o
@@ -84,7 +67,7 @@ pub fn place_bits(sheet: &[u8], free: &[u8], u: &mut [u8])
     requires { ⌜ AreBits (now free) × (length (now free) ≡ frees (tab (length (now u)) (ruleAt (now sheet)))) ⌝ }
     ensures { λ _. ⌜ now (u .exit) ≡ map bit (place (tab (length (now (u .entry))) (ruleAt (now (sheet .entry)))) [] (map isOne (now (free .entry)))) ⌝ }
 {
-    let mut values = [0u64; WORDS];
+    let mut values = [0u64; masks::WORDS];
     let mut next = 0;
     let mut i = 0;
     while i < u.len() {

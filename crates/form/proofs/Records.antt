@@ -13,9 +13,8 @@ use borrow.Author.Tests.{le-leb, lt-leb, eq-eqb, ne-eqb}
 use Rattle.bits.specs.Vectors.{pick, tab, zeros, firstPlace}
 use Rattle.bits.proofs.Tests.{length-tab, tab-at, place-found, place-next, place-end, all-next, all-end, all-at}
 use Rattle.bits.specs.Words.{hasBit}
-use Rattle.bits.proofs.WordBits.{zero-bit, leading-bit}
+use Rattle.bits.proofs.WordBits.{zero-bit, leading-bit, shr-bit}
 use Rattle.masks.specs.Masks.{Spelt}
-use Rattle.masks.proofs.Joining.{shr-bit}
 use Rattle.meaning.specs.Limits.{maskBytes, recordBytes}
 use Rattle.meaning.specs.Sheet.{byte, names, mask, fine, Rule, free, frozen, frees, ruleAt}
 use Rattle.meaning.specs.Answers.{badCheck}

@@ -1,49 +1,24 @@
--- Two words side by side, bit by bit, and the bits of a mask's word.
---     low-bit, high-bit      a bit of two words side by side
---     one-byte, side-by-side, spelt     what a word of bytes holds
---     shr-bit, shl-bit, shl-low     a bit of a shifted word
+-- The bits of a mask's word, byte by byte.
+--     one-byte, side-by-side     what bytes side by side hold
+--     no-word, no-record, all-there     the word that `word` reads
+--     word-there, word-here      of a record that is there it has the names
+--     word-same                  there is one such word
 use mathlib.Core.Path.{_≡_, refl, sym, ap, _∙_}
 use mathlib.Core.Logic.{⊎-elim}
 use Prim.Native.Nat.{ℕ, suc, _+_, _*_, _-_, _/_, _%_, _^_, _≤_, _<_}
 use native.Mathlib.Omega.{arith}
 use native.Mathlib.Nat.{add-comm}
-use mathlib.Core.Bool.{false}
+use mathlib.Core.Bool.{Bool, true, false, _&&_, true≢false}
 use mathlib.Core.List.{List}
-use lib.ListN.{getD}
-use lib.Pow.{high, low, field, mod-mod-pow, shr-shr, shl-shr, pow-pos}
-use lib.Dec.{eqb}
+use lib.ListN.{length, getD}
+use lib.Dec.{ltb}
+use borrow.Author.Tests.{lt-ltb, le-ltb}
 use Rattle.bits.specs.Words.{hasBit}
-use Rattle.bits.proofs.Tests.{le-or-lt}
-use Rattle.bits.proofs.WordBits.{join-lt, zero-bit}
+use Rattle.bits.proofs.Tests.{and-r, and-i, le-or-lt}
+use Rattle.bits.proofs.WordBits.{low-bit, high-bit, join-lt, same-bits}
 use Rattle.meaning.specs.Limits.{recordBytes, maskBytes}
 use Rattle.meaning.specs.Sheet.{names}
-use Rattle.masks.specs.Masks.{Holds, Spelt}
-
--- bit j of the e lowest bits
-cut-bit : (e j n : ℕ) → j < e → hasBit (n % 2 ^ e) j ≡ hasBit n j
-cut-bit e j n l =
-    let d : ℕ = e - suc j in
-    let s : d + 1 + j ≡ e = omega arith in
-    let f : n % 2 ^ e / 2 ^ j ≡ n / 2 ^ j % 2 ^ (d + 1) = ap (λ (x : ℕ). n % 2 ^ x / 2 ^ j) (sym s) ∙ field n (d + 1) j in
-    ap (λ (x : ℕ). eqb x 1) (ap (λ (x : ℕ). x % 2) f ∙ mod-mod-pow (n / 2 ^ j) d 1)
-
-low-bit : (e j a b : ℕ) → a < 2 ^ e → j < e → hasBit (b * 2 ^ e + a) j ≡ hasBit a j
-low-bit e j a b h l = sym (cut-bit e j (b * 2 ^ e + a) l) ∙ ap (λ (x : ℕ). hasBit x j) (low b e h)
-
-pub shr-bit : (n e t : ℕ) → hasBit (n / 2 ^ e) t ≡ hasBit n (e + t)
-shr-bit n e t = ap (λ (x : ℕ). eqb (x % 2) 1) (shr-shr n e t)
-
-high-bit : (e t a b : ℕ) → a < 2 ^ e → hasBit (b * 2 ^ e + a) (e + t) ≡ hasBit b t
-high-bit e t a b h = sym (shr-bit (b * 2 ^ e + a) e t) ∙ ap (λ (x : ℕ). hasBit x t) (high b e h)
-
--- a word shifted up by e, of which the n lowest bits are left
-pub shl-bit : (n e t x : ℕ) → e + t < n → hasBit (x * 2 ^ e % 2 ^ n) (e + t) ≡ hasBit x t
-shl-bit n e t x l = cut-bit n (e + t) (x * 2 ^ e) l ∙ sym (shr-bit (x * 2 ^ e) e t) ∙ ap (λ (y : ℕ). hasBit y t) (shl-shr x e)
-
-pub shl-low : (n e p x : ℕ) → p < e → e ≤ n → hasBit (x * 2 ^ e % 2 ^ n) p ≡ false
-shl-low n e p x h l =
-    let z : x * 2 ^ e ≡ x * 2 ^ e + 0 = omega arith in
-    cut-bit n p (x * 2 ^ e) (omega arith) ∙ ap (λ (y : ℕ). hasBit y p) z ∙ low-bit e p 0 x (pow-pos e) h ∙ zero-bit p
+use Rattle.masks.specs.Masks.{maskWords, inside, Spelt, WordOf, Holds}
 
 pub one-byte : (s : List ℕ) (at : ℕ) → getD s at 0 < 256 → Holds 1 s at (getD s at 0)
 one-byte s at h = record {
@@ -72,7 +47,7 @@ side-by-side n s at hi lo h l = record {
       rw (add-comm (hi * 2 ^ (8 * n)) lo, ← e) (join-lt (8 * n) (8 * n) lo hi (l .small) (h .small));
 }
 
-pub spelt : (s : List ℕ) (i k r : ℕ) → Holds 8 s (i * recordBytes + 4 + 8 * k) r → Spelt s i k r
+spelt : (s : List ℕ) (i k r : ℕ) → Holds 8 s (i * recordBytes + 4 + 8 * k) r → Spelt s i k r
 unfolding names
 spelt s i k r h = record {
   bits = λ j l.
@@ -81,3 +56,34 @@ spelt s i k r h = record {
       h .bits j l ∙ ap (λ (x : ℕ). hasBit (getD s x 0) (j % 8)) p ∙ ap (hasBit (getD s (i * recordBytes + (4 + (64 * k + j) / 8)) 0)) q;
   small = h .small;
 }
+
+-- ---- what `word` answers
+
+pub no-word : (s : List ℕ) (i k : ℕ) → maskWords ≤ k → WordOf s i k 0
+unfolding inside
+no-word s i k h = record { there = λ e. absurd (true≢false (sym e ∙ rw (le-ltb k maskWords h) refl)); missing = λ e. refl }
+
+pub no-record : (s : List ℕ) (i k : ℕ) → length s / recordBytes ≤ i → WordOf s i k 0
+unfolding inside
+no-record s i k h = record { there = λ e. absurd (true≢false (sym (and-r (ltb k maskWords) _ e) ∙ le-ltb i (length s / recordBytes) h)); missing = λ e. refl }
+
+pub all-there : (s : List ℕ) (i k r : ℕ) → k < maskWords → i < length s / recordBytes → Holds 8 s (i * recordBytes + 4 + 8 * k) r → WordOf s i k r
+unfolding inside
+all-there s i k r hk hi h = record { there = λ e. spelt s i k r h; missing = λ e. absurd (true≢false (sym (and-i _ _ (lt-ltb k maskWords hk) (lt-ltb i (length s / recordBytes) hi)) ∙ e)) }
+
+-- of a record that is there
+pub word-there : (s : List ℕ) (i k r : ℕ) → k < maskWords → (i + 1) * recordBytes ≤ length s → WordOf s i k r → Spelt s i k r
+unfolding inside maskBytes recordBytes
+word-there s i k r hk hi h = h .there (and-i _ _ (lt-ltb k maskWords hk) (lt-ltb i (length s / recordBytes) (omega arith)))
+
+-- and of a position of its mask
+pub word-here : (s : List ℕ) (i j r : ℕ) → j < 8 * maskBytes → (i + 1) * recordBytes ≤ length s → WordOf s i (j / 64) r → Spelt s i (j / 64) r
+unfolding maskBytes
+word-here s i j r hj hi h = word-there s i (j / 64) r (omega arith) hi h
+
+pub word-same : (s : List ℕ) (i k r r′ : ℕ) → WordOf s i k r → WordOf s i k r′ → r ≡ r′
+word-same s i k r r′ a b = go (inside s i k) refl
+  where
+    go : (t : Bool) → inside s i k ≡ t → r ≡ r′
+    go true e = let x = a .there e in let y = b .there e in same-bits 64 r r′ (x .small) (y .small) (λ j l. x .bits j l ∙ sym (y .bits j l))
+    go false e = a .missing e ∙ sym (b .missing e)

@@ -1,2 +1,2 @@
--- Joining: two words side by side, bit by bit, and the bits of a mask's word.
+-- Joining: the bits of a mask's word, byte by byte.
 pub mod Joining

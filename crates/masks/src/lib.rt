@@ -1,9 +1,11 @@
 // The masks of the sheet's records, by words of 64 positions.
-ghost use Prim.Native.Nat.{_+_, _*_, _<_, _≤_};
+ghost use Prim.Native.Nat.{_+_, _<_, _≤_};
 ghost use lib.ListN.{length};
-ghost use Rattle.meaning.specs.Limits.{recordBytes, maskBytes};
-ghost use Rattle.masks.specs.Masks.{Holds, Spelt};
+ghost use Rattle.masks.specs.Masks.{Holds, WordOf};
 use meaning::limits;
+
+// Words of a record's mask.
+pub const WORDS: usize = limits::MASK / 8;
 
 // A byte as a word.
 fn one(s: &[u8], at: usize) -> u64
@@ -43,10 +45,16 @@ fn eight(s: &[u8], at: usize) -> u64
     high * 4294967296 + low
 }
 
-// The positions 64 k to 64 k + 63 of record i's mask, the first at bit 0.
+// Which of the positions 64 k to 64 k + 63 record i of a sheet names, the first at bit 0. 0 where the sheet has no such record
+// or its mask no such word.
 pub fn word(sheet: &[u8], i: usize, k: usize) -> u64
-    requires { ⌜ (8 * k < maskBytes) × ((i + 1) * recordBytes ≤ length (now sheet)) ⌝ }
-    ensures { λ r. ⌜ Spelt (now (sheet .entry)) i k r ⌝ }
+    ensures { λ r. ⌜ WordOf (now (sheet .entry)) i k r ⌝ }
 {
+    if WORDS <= k {
+        return 0;
+    }
+    if sheet.len() / limits::RECORD <= i {
+        return 0;
+    }
     eight(sheet, i * limits::RECORD + 4 + 8 * k)
 }

@@ -4,10 +4,11 @@ use native.Mathlib.Omega.{arith}
 use lib.Bits.{bitXor}
 use borrow.Author.Needs.{needs}
 use Rattle.bits.specs.Vectors.{bit}
-use Rattle.meaning.specs.Limits.{recordBytes, maskBytes}
+use Rattle.meaning.specs.Limits.{maskBytes}
 use Rattle.meaning.specs.Sheet.{names}
-use Rattle.codec.specs.Packed.{maskWords, maskWord}
-use Rattle.codec.proofs.Packing.{oddFirst, word-more, all-words}
+use Rattle.masks.specs.Masks.{maskWords}
+use Rattle.masks.proofs.Joining.{word-there}
+use Rattle.codec.proofs.Packing.{oddFirst, word-more, word-bits, all-words}
 use Rattle.codec.proofs.rules.odd_named.Statement.{statement}
 use Rattle.codec.proofs.rules.odd_named.Tie as tie
 
@@ -20,9 +21,8 @@ abbrev μ-loop : tie.MeasureT-loop
 loop-holds : tie.Need-loop-holds Inv-loop μ-loop
 loop-holds c = (omega arith, refl)
 
-mask-word-requires : tie.Need-mask-word-requires Inv-loop μ-loop
-unfolding recordBytes maskBytes
-mask-word-requires c κs = omega arith
+word-requires : tie.Need-word-requires Inv-loop μ-loop
+word-requires c κs = search needs
 
 mul-parity : tie.Need-mul-parity Inv-loop μ-loop
 unfolding maskBytes
@@ -44,16 +44,19 @@ unfolding maskBytes
 loop-less c = omega arith
 
 loop-again : tie.Need-loop-again Inv-loop μ-loop
-unfolding maskBytes maskWord
+unfolding maskBytes
 loop-again c =
     let call = c .before .before in
     let turn = call .before in
     let start = turn .before .before .before .before in
-    let inv = turn .before .loop .inv in (
+    let A = start .args in
+    let k = turn .before .loop .k in
+    let inv = turn .before .loop .inv in
+    let W = call .word in (
       omega arith,
       ap₂ bitXor (inv .1) (c .parity .ensures)
-          ∙ word-more (names (start .args .sheet .now) (start .args .i)) (start .args .values .now) (turn .before .loop .k) (call .mask-word .result)
-          (c .before .shared-slice-known3 .given _ .fits) (call .mask-word .ensures),
+          ∙ word-more (names (A .sheet .now) (A .i)) (A .values .now) k (W .result)
+          (c .before .shared-slice-known3 .given _ .fits) (word-bits (A .sheet .now) (A .i) k (W .result) (word-there (A .sheet .now) (A .i) k (W .result) (turn .loop-test .taken) (start .pre .0) (W .ensures))),
     )
 
 returns : tie.Need-returns Inv-loop μ-loop
@@ -72,7 +75,7 @@ odd-named-spec =
     Inv-loop
     μ-loop
     loop-holds
-    mask-word-requires
+    word-requires
     mul-parity
     shared-slice-read-parity
     parity-requires
