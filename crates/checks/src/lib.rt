@@ -7,7 +7,7 @@ mod register;
 
 // Appends the r rows of the check to the first m rows of `eqs`: the remainder of r rows of the constant and the free rows of
 // `us` by the check polynomial of length r, which is 0, 6 or 11. Rows have w words as in a descent, the constant in word c.
-// Answers false, and changes nothing, unless n is at most 7, the sheet has 20 N bytes for N = 2 to the n, there is a check of
+// Answers false, and changes nothing, unless n is at most limits::LARGEST_N, the sheet has N = 2 to the n records, there is a check of
 // length r, c is below w, w is at most 65536, `us` has N w words, and `eqs` has at least (m + r) w.
 pub fn check_rows(
     n: usize,

@@ -20,7 +20,7 @@ fn size_of(n: usize) -> usize
     1 << n
 }
 
-// Whether a sheet and a word of these lengths have N records and N symbols, n at most 7.
+// Whether a sheet and a word of these lengths have N records and N symbols, n at most limits::LARGEST_N.
 pub fn shaped(n: usize, sheet: usize, word: usize) -> bool
     ensures { λ r. ⌜ r ≡ shaped n sheet word ⌝ }
 {
@@ -136,7 +136,7 @@ fn within(n: usize, sheet: &[u8], word: &[u8]) -> usize
 }
 
 // The number of unknowns g of a word of N = 2 to the n symbols (0, 1, above 1 erased) under the rules of a sheet of N
-// records: its open free positions, from what is erased alone. 0 where n is above 7, or where the sheet or the word has not
+// records: its open free positions, from what is erased alone. 0 where n is above limits::LARGEST_N, or where the sheet or the word has not
 // the length that n asks for.
 pub fn unknowns(n: usize, sheet: &[u8], word: &[u8]) -> usize
     ensures { λ r. ⌜ r ≡ counting n (now (sheet .entry)) (now (word .entry)) ⌝ }

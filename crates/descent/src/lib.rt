@@ -24,8 +24,8 @@ pub enum Descent {
 // Answers Done with the numbers of unknowns and of equations. Then `vals` holds the N symbols' rows, `us` the N rows of u, and
 // `eqs` the equations, each to be 0, followed by zeros.
 // Answers Over, and changes nothing, where there are more than `most` unknowns.
-// Answers Misfit, and changes nothing, unless n is at most 7, the sheet has 20 N bytes, the word N, c is below w, `most` is at
-// most 64 c, and each of the three slices has N w words.
+// Answers Misfit, and changes nothing, unless n is at most limits::LARGEST_N, the sheet has N records, the word N symbols, c is below w,
+// `most` is at most 64 c, and each of the three slices has N w words.
 pub fn descend(
     n: usize,
     sheet: &[u8],

@@ -15,7 +15,7 @@ use meaning::Answer;
 use meaning::limits;
 
 // Checks a sheet of N = 2 to the n records, with its check length r.
-// Answers Done, or BadShape (11: n above 7, or not 20N bytes), BadRecord (12: the place of the first record that breaks
+// Answers Done, or BadShape (11: n above 9, or not 68N bytes), BadRecord (12: the place of the first record that breaks
 // any rule), HoldsNothing (19: no free position), BadCheck (13: r not 0, 6 or 11, or r above 0 and no more than r free
 // positions); the first that applies.
 pub fn check_sheet(n: usize, sheet: &[u8], r: usize) -> Answer
@@ -62,7 +62,7 @@ pub fn check_word(word: &[u8], wanted: usize, top: u8, room: usize, needed: usiz
     Answer::Done
 }
 
-// The number of free positions of a sheet, K: of its whole records of 20 bytes, those whose byte 0 is 0.
+// The number of free positions of a sheet, K: of its whole records of 68 bytes, those whose byte 0 is 0.
 // Takes any bytes; the records need not keep the rules.
 pub fn count_free(sheet: &[u8]) -> usize
     ensures { λ k. ⌜ k ≡ frees (tab (length (now (sheet .entry)) / recordBytes) (ruleAt (now (sheet .entry)))) ⌝ }

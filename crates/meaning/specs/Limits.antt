@@ -4,6 +4,7 @@
 --     maskBytes         bytes of a record's mask
 --     recordBytes       bytes of a record of the sheet: 4, then the mask
 --     largestCeiling    the ceiling on unknowns is 0 to this
+--     headBytes         bytes of an answer record before its strips
 --     stripWidth        bytes of a strip in an answer record
 --     leads r           the bits that stand before the free bits when the check divides: r ones
 use Prim.Native.Nat.{ℕ, _+_}
@@ -23,6 +24,9 @@ recordBytes = 4 + maskBytes
 
 unfoldable pub largestCeiling : ℕ
 largestCeiling = 255
+
+unfoldable pub headBytes : ℕ
+headBytes = 16
 
 unfoldable pub stripWidth : ℕ
 stripWidth = 512

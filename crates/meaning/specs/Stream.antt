@@ -1,6 +1,6 @@
 -- The stream: one answer record for each word of the input, in its place.
 --     twoBytes x           a number as two bytes, low first
---     header a             the first 16 bytes of an answer record
+--     header a             the bytes of an answer record before its strips
 --     answerRecord         the record of one word
 --     sizeOf s             the n of a sheet, from its length
 --     records              all records that an input gets
@@ -12,7 +12,7 @@ use mathlib.Core.List.{List, [], _∷_, _++_, map, flatten}
 use lib.ListN.{length, take, drop, getD, replicate}
 use lib.Dec.{eqb, ltb}
 use Rattle.bits.specs.Vectors.{pick, tab, firstPlace}
-use Rattle.meaning.specs.Limits.{largestN, recordBytes, stripWidth}
+use Rattle.meaning.specs.Limits.{largestN, recordBytes, headBytes, stripWidth}
 use Rattle.meaning.specs.Answers.{numbersOf, Reply, _⇒_, firstOf, leaving, writing, decoding}
 use Rattle.meaning.specs.declared.Answer.{Answer}
 use Rattle.meaning.specs.declared.Answer.the-variants.{Done, BadShape, BadCheck, ShortOutput}
@@ -23,14 +23,14 @@ use Rattle.meaning.specs.declared.Answer.the-variants.{Done, BadShape, B
 abbrev pub twoBytes : ℕ → List ℕ
 twoBytes x = x % 256 ∷ x / 256 % 256 ∷ []
 
--- code, place, g, m, d, two bytes each; the rest zeros
+-- code, place, g, m, d, two bytes each; the rest zero
 abbrev pub header : Answer → List ℕ
-header a = flatten (map twoBytes (numbersOf a)) ++ replicate 6 0
+header a = flatten (map twoBytes (numbersOf a)) ++ replicate (headBytes - 10) 0
 
 -- its bytes: the header, then three strips
 unfoldable pub answerBytes : ℕ
-unfolding stripWidth
-answerBytes = 16 + 3 * stripWidth
+unfolding headBytes stripWidth
+answerBytes = headBytes + 3 * stripWidth
 
 -- a strip, the places past N filled with 255
 abbrev pub padded : List ℕ → List ℕ

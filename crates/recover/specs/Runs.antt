@@ -1,4 +1,6 @@
--- A run: 32 words at most, and room for their records.
+-- A run of words, and room for their records.
+--     runWords     the words of a run
+--     Ready        what is known of a sheet, a choice and the room for a run
 use mathlib.Core.Path.{_≡_}
 use Prim.Native.Nat.{ℕ, _*_, _^_, _≤_}
 use mathlib.Core.List.{List}
@@ -6,9 +8,12 @@ use lib.ListN.{length}
 use Rattle.meaning.specs.Limits.{largestN}
 use Rattle.meaning.specs.Stream.{answerBytes, sizeOf}
 
--- the sheet and the choice have a right length, a run is 32 words, and there is room for as many records
+unfoldable pub runWords : ℕ
+runWords = 32
+
+-- the sheet and the choice have a right length, and there is room for the words and the records of a run
 pub record Ready (s ch : List ℕ) (run room : ℕ) : Type 0 where
   pub small : sizeOf s ≤ largestN
   pub two : length ch ≡ 2
-  pub words : run ≡ 32 * 2 ^ sizeOf s
-  pub roomy : 32 * answerBytes ≤ room
+  pub words : run ≡ runWords * 2 ^ sizeOf s
+  pub roomy : runWords * answerBytes ≤ room

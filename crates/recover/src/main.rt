@@ -1,11 +1,12 @@
 // Answers a stream of words. Reads sheet.bin and choice.bin in the folder that it is run in, and words of N bytes on standard
-// input; writes a record of 1552 bytes for each to standard output, as 01 says. The answers are those of `stream::answer`, by
+// input; writes a record for each to standard output, as 01 says. The answers are those of `stream::answer`, by
 // runs of whole words and then the rest; that this gives the same bytes is a theorem (stream/proofs/Promise, `cut`).
 ghost use mathlib.Core.Path.{_≡_};
 ghost use Prim.Native.Nat.{_*_, _^_, _≤_};
 ghost use lib.ListN.{length};
+ghost use Rattle.meaning.specs.Limits.{largestN};
 ghost use Rattle.meaning.specs.Stream.{answerBytes, records};
-ghost use Rattle.recover.specs.Runs.{Ready};
+ghost use Rattle.recover.specs.Runs.{runWords, Ready};
 use libc::STDERR_FILENO;
 use libc::STDIN_FILENO;
 use libc::STDOUT_FILENO;
@@ -91,7 +92,7 @@ fn turns(sheet: &[u8], choice: &[u8], input: &mut [u8], out: &mut [u8])
 
 // Answers the words on standard input; where the sheet or the choice has a wrong length, writes one record and reads none.
 fn serve(sheet: &[u8], choice: &[u8], input: &mut [u8], out: &mut [u8])
-    requires { ⌜ (length (now input) ≡ 16384) × (length (now out) ≡ 49664) ⌝ }
+    requires { ⌜ (length (now input) ≡ runWords * 2 ^ largestN) × (length (now out) ≡ runWords * answerBytes) ⌝ }
 {
     let n = stream::size(sheet);
     if limits::LARGEST_N < n {

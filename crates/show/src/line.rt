@@ -2,7 +2,14 @@
 ghost use mathlib.Core.Path.{_≡_};
 ghost use Prim.Native.Nat.{_+_, _<_};
 ghost use lib.ListN.{length};
+ghost use Rattle.meaning.specs.Stream.{answerBytes};
 use crate::text;
+use meaning::limits;
+
+// Where the second and the third strip start.
+const SECOND: usize = limits::HEAD + limits::WIDTH;
+
+const THIRD: usize = SECOND + limits::WIDTH;
 
 // A byte as a number.
 fn wide(x: u8) -> u64
@@ -64,19 +71,19 @@ fn refusal(code: u64, place: u64, g: u64) -> bool {
 
 // The three strips of an ambiguous word.
 fn strips(answer: &[u8]) -> bool
-    requires { ⌜ length (now answer) ≡ 1552 ⌝ }
+    requires { ⌜ length (now answer) ≡ answerBytes ⌝ }
 {
     text::say(b"  settled ")
-        && text::strip(&answer[16..528])
+        && text::strip(&answer[limits::HEAD..SECOND])
         && text::say(b"  first ")
-        && text::strip(&answer[528..1040])
+        && text::strip(&answer[SECOND..THIRD])
         && text::say(b"  last ")
-        && text::strip(&answer[1040..1552])
+        && text::strip(&answer[THIRD..limits::ANSWER])
 }
 
 // What a record says: the verdict, or a refusal.
 fn said(answer: &[u8]) -> bool
-    requires { ⌜ length (now answer) ≡ 1552 ⌝ }
+    requires { ⌜ length (now answer) ≡ answerBytes ⌝ }
 {
     let g = two(answer, 4);
     let m = two(answer, 6);
@@ -86,7 +93,7 @@ fn said(answer: &[u8]) -> bool
             text::say(b"unique        ")
                 && counts(g, m, d)
                 && text::say(b"  ")
-                && text::strip(&answer[16..528])
+                && text::strip(&answer[limits::HEAD..SECOND])
         }
         1 => text::say(b"ambiguous     ") && counts(g, m, d) && strips(answer),
         2 => text::say(b"inconsistent  ") && counts(g, m, d),
@@ -96,7 +103,7 @@ fn said(answer: &[u8]) -> bool
 
 // The line of record n, counted from 1.
 pub fn line(n: u64, answer: &[u8]) -> bool
-    requires { ⌜ length (now answer) ≡ 1552 ⌝ }
+    requires { ⌜ length (now answer) ≡ answerBytes ⌝ }
 {
     text::number(n, 6) && text::say(b"  ") && said(answer) && text::say(b"\n")
 }

@@ -1,7 +1,8 @@
-// Prints answer records for a person. Standard input holds records of 1552 bytes; each becomes a line: its number, the verdict
+// Prints answer records for a person. Standard input holds records one after the other; each becomes a line: its number, the verdict
 // in words, g, m and d, and the strips as digits, or a refusal and what it means. Behind them stands a count by verdict.
 ghost use mathlib.Core.Path.{_≡_};
 ghost use lib.ListN.{length};
+ghost use Rattle.meaning.specs.Stream.{answerBytes};
 
 mod line;
 mod tally;
@@ -23,7 +24,7 @@ fn fail() {
 // Shows records until one is cut off or cannot be written, and then what was counted. It counts down, from a number that no
 // run uses up, since a proved loop has to end and nothing says that the input does.
 fn turns(answer: &mut [u8])
-    requires { ⌜ length (now answer) ≡ 1552 ⌝ }
+    requires { ⌜ length (now answer) ≡ answerBytes ⌝ }
 {
     let mut t = tally::none();
     let mut left = u64::MAX;

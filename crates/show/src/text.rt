@@ -2,6 +2,7 @@
 ghost use mathlib.Core.Path.{_≡_};
 ghost use Prim.Native.Nat.{_≤_};
 ghost use lib.ListN.{length, take};
+ghost use Rattle.meaning.specs.Limits.{stripWidth};
 ghost use Rattle.show.specs.Digits.{shown, digitOf};
 use libc::STDOUT_FILENO;
 use meaning::limits;
@@ -50,9 +51,9 @@ fn digits(strip: &[u8], text: &mut [u8]) -> usize
     k
 }
 
-// Writes the digits of a strip of 512 bytes: those before its first 255, the places below N.
+// Writes the digits of a strip: those before its first 255, the places below N.
 pub fn strip(s: &[u8]) -> bool
-    requires { ⌜ length (now s) ≡ 512 ⌝ }
+    requires { ⌜ length (now s) ≡ stripWidth ⌝ }
 {
     let mut text = [0u8; limits::WIDTH];
     let k = digits(s, &mut text);

@@ -53,10 +53,6 @@ module _ (s : List ℕ) where
     pub size-none : largestN < n → n ≡ sizeOf s
     size-none h = sym (place-end has sizes n (omega (arith, length-tab (suc largestN) (λ (i : ℕ). i)))) ∙ l
 
-pub size-low : (n : ℕ) → n ≤ largestN → 2 ^ n ≤ 512
-unfolding largestN
-size-low n h = omega (arith, pow-mono h)
-
 -- ---- division, rounded up
 
 module _ (a b : ℕ) (h : 1 ≤ b) where

@@ -11,6 +11,7 @@ use mathlib.Core.Bool.{Bool, true, false}
 use mathlib.Core.List.{List, [], _∷_, _++_, map, List·Memᴰ, List·Memᴰ·head, List·Memᴰ·tail}
 use lib.ListN.{length, length-append, length-drop, length-map}
 use lib.Dec.{ltb}
+use lib.Pow.{pow-mono}
 use borrow.Author.Tests.{ltb-true, lt-ltb, eqb-true, not-false}
 use Rattle.bits.specs.Vectors.{bit, pick, ones, firstPlace}
 use Rattle.bits.proofs.Tests.{length-tab}
@@ -30,7 +31,6 @@ use Rattle.meaning.proofs.Gap.{d-le-g}
 use Rattle.meaning.proofs.Refusals.{first-none, none-append, refused-untouched}
 use Rattle.meaning.proofs.Forms.{Good, good, worded}
 use Rattle.stream.specs.Laying.{small, Small}
-use Rattle.stream.proofs.Counting.{size-low}
 
 -- a fact of what each row answers, and of what is given where none applies
 module _ (P : Reply → Type 0) (out : List ℕ) (z : Reply) where
@@ -118,9 +118,14 @@ closed-few (frozen c m ∷ ks) (true ∷ o) = omega (arith, closed-few ks o)
 closed-few (frozen c m ∷ ks) (false ∷ o) = omega (arith, closed-few ks o)
 
 module _ (n : ℕ) (h : n ≤ largestN) where
+  -- N and the longest check
+  size-low : 2 ^ n + 11 < 65536
+  unfolding largestN
+  size-low = omega (arith, pow-mono h)
+
   unknowns-few : (s w : List ℕ) → unknowns n (rules n s) w < 65536
   unfolding unknowns
-  unknowns-few s w = omega (arith, open-few (rules n s) (openAll n w), length-rules n s, size-low n h)
+  unknowns-few s w = omega (arith, open-few (rules n s) (openAll n w), length-rules n s, size-low)
 
   equations-few : (s w : List ℕ) (r : ℕ) → (r ≡ 0) ⊎ ((r ≡ 6) ⊎ (r ≡ 11)) → equations n (rules n s) r w < 65536
   unfolding equations
@@ -130,9 +135,9 @@ module _ (n : ℕ) (h : n ≤ largestN) where
       l = closed-few (rules n s) (openAll n w)
 
       go : (r ≡ 0) ⊎ ((r ≡ 6) ⊎ (r ≡ 11)) → ones (closedFrozen (rules n s) (openAll n w)) + r < 65536
-      go (inl e) = omega (arith, l, length-rules n s, size-low n h)
-      go (inr (inl e)) = omega (arith, l, length-rules n s, size-low n h)
-      go (inr (inr e)) = omega (arith, l, length-rules n s, size-low n h)
+      go (inl e) = omega (arith, l, length-rules n s, size-low)
+      go (inr (inl e)) = omega (arith, l, length-rules n s, size-low)
+      go (inr (inr e)) = omega (arith, l, length-rules n s, size-low)
 
   verdict-small : (s w out : List ℕ) (r : ℕ) → Good n s r → (cs : List (List Bool)) → (cs ≡ candidates n (rules n s) r w)
       → Small ((verdict n (unknowns n (rules n s) w) (equations n (rules n s) r w) cs out) .answer)
@@ -150,7 +155,7 @@ module _ (n : ℕ) (h : n ≤ largestN) where
       by-rows (λ (t : Reply). Small (t .answer)) out (verdict n (unknowns n (rules n s) w) (equations n (rules n s) r w) (candidates n (rules n s) r w) out) (decodeRefusals n s r c w out) (
         λ _. refl,
         λ a. (
-          λ e. rw (lt-ltb (badRecord n s) 65536 (omega (arith, ltb-true (badRecord n s) (2 ^ n) e, size-low n h))),
+          λ e. rw (lt-ltb (badRecord n s) 65536 (omega (arith, ltb-true (badRecord n s) (2 ^ n) e, size-low))),
           λ b. (
             λ _. refl,
             λ k. (
@@ -158,7 +163,7 @@ module _ (n : ℕ) (h : n ≤ largestN) where
               λ d. (
                 λ _. refl,
                 λ l. (
-                  λ e. rw (lt-ltb (firstPlace (ltb 2) w) 65536 (omega (arith, ltb-true (firstPlace (ltb 2) w) (length w) e, eqb-true (length w) (2 ^ n) (not-false _ l), size-low n h))),
+                  λ e. rw (lt-ltb (firstPlace (ltb 2) w) 65536 (omega (arith, ltb-true (firstPlace (ltb 2) w) (length w) e, eqb-true (length w) (2 ^ n) (not-false _ l), size-low))),
                   λ _. (
                     λ _. refl,
                     λ _. (

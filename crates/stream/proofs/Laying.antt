@@ -1,5 +1,5 @@
 -- A record in the parts that the code writes.
---     headed, header-long        the five numbers as two bytes each, and six zeros behind them
+--     headed, header-long        the five numbers as two bytes each, and zeros behind them
 --     drop-blank, take-blank     blank bytes past the first, and the first
 --     laid-one .. laid-all       the strips, one after the other
 --     put-whole                  a record: its numbers, then its strips
@@ -15,7 +15,7 @@ use borrow.Rule.Slice.PartMut.{putMid, postOf}
 use Rattle.bits.specs.Vectors.{tab}
 use Rattle.bits.proofs.Tests.{tab-getD}
 use Rattle.bits.proofs.RowLaws.{put-behind}
-use Rattle.meaning.specs.Limits.{largestN, stripWidth}
+use Rattle.meaning.specs.Limits.{largestN, headBytes, stripWidth}
 use Rattle.meaning.specs.Answers.{numbersOf, Reply, leaving, decoding}
 use Rattle.meaning.specs.Stream.{twoBytes, header, padded, answerRecord}
 use Rattle.meaning.specs.declared.Answer.{Answer}
@@ -28,14 +28,14 @@ module _ (a : Answer) (v : List ℕ) (e : v ≡ numbersOf a) where
   five : length v ≡ 5
   five = ap length e ∙ numbers-five a
 
-  pub headed : flatten (tab 5 (λ (i : ℕ). twoBytes (getD v i 0))) ++ replicate 6 0 ≡ header a
+  pub headed : flatten (tab 5 (λ (i : ℕ). twoBytes (getD v i 0))) ++ replicate (headBytes - 10) 0 ≡ header a
   unfolding flatten
   headed =
       let t : tab 5 (λ (i : ℕ). getD v i 0) ≡ v = subst (λ (k : ℕ). tab k (λ (i : ℕ). getD v i 0) ≡ v) five (tab-getD v 0 (λ (i : ℕ). getD v i 0) (λ i l. refl)) in
-      ap (λ (l : List ℕ). flatten (map twoBytes l) ++ replicate 6 0) (t ∙ e)
+      ap (λ (l : List ℕ). flatten (map twoBytes l) ++ replicate (headBytes - 10) 0) (t ∙ e)
 
-pub header-long : (a : Answer) → length (header a) ≡ 16
-unfolding flatten
+pub header-long : (a : Answer) → length (header a) ≡ headBytes
+unfolding flatten headBytes
 header-long a = ap length (sym (headed a (numbersOf a) refl))
 
 -- ---- parts put one behind the other

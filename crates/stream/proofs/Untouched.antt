@@ -1,7 +1,7 @@
 -- The record of a word whose answer leaves the strips untouched: all of them is 255.
 --     untouched-record     the numbers of the answer, and blank strips
 --     nothing-recorded     with a sheet that holds nothing, each word's record is of code 19
-use mathlib.Core.Path.{_≡_, ap, ap₂, _∙_}
+use mathlib.Core.Path.{_≡_, refl, ap, ap₂, _∙_}
 use Prim.Native.Nat.{ℕ, zero, suc, _+_, _-_, _*_, _^_, _≤_}
 use native.Mathlib.Omega.{arith}
 use mathlib.Core.Bool.{false}
@@ -15,8 +15,7 @@ use Rattle.meaning.specs.Stream.{header, padded, answerRecord, refusedRecord}
 use Rattle.meaning.specs.declared.Answer.{Answer}
 use Rattle.meaning.specs.declared.Answer.the-variants.{HoldsNothing}
 use Rattle.meaning.proofs.Holding.{nothing-decoded}
-use Rattle.stream.proofs.Laying.{take-blank, drop-blank}
-use Rattle.stream.proofs.Counting.{size-low}
+use Rattle.stream.proofs.Laying.{take-blank, drop-blank, word-fits}
 
 abbrev blanks : ℕ → List ℕ
 blanks k = replicate k 255
@@ -43,7 +42,7 @@ pub untouched-record : (n : ℕ) (s : List ℕ) (r c : ℕ) (w : List ℕ) (a : 
 unfolding answerRecord refusedRecord stripWidth
 untouched-record n s r c w a h p =
     let N : ℕ = 2 ^ n in
-    let low : N ≤ stripWidth = omega (arith, size-low n h) in
+    let low : N ≤ stripWidth = word-fits n N h refl in
     let one : padded (take N (blanks (3 * N))) ≡ blanks stripWidth = ap padded (take-blank N (3 * N) (omega arith)) ∙ blank-strip N low in
     let two : padded (take N (drop N (blanks (3 * N)))) ≡ blanks stripWidth =
     ap (λ (t : List ℕ). padded (take N t)) (drop-blank N (3 * N)) ∙ ap padded (take-blank N (3 * N - N) (omega arith)) ∙ blank-strip N low in

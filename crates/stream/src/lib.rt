@@ -1,4 +1,4 @@
-// The answers to a whole input: one record of 392 bytes for each word, in its place. Every function here is total, and over
+// The answers to a whole input: one record of 1,552 bytes for each word, in its place. Every function here is total, and over
 // values: the bytes of sheet.bin, of choice.bin (r, then the ceiling) and of the words end to end.
 ghost use mathlib.Core.Path.{_≡_};
 ghost use mathlib.Core.List.{_++_, flatten};
@@ -22,7 +22,7 @@ fn size_of(n: usize) -> usize
     1 << n
 }
 
-// The n of a sheet of N = 2 to the n records, from its length; 8 where no n up to 7 has such a sheet.
+// The n of a sheet of N = 2 to the n records, from its length; 10 where no n up to 9 has such a sheet.
 pub fn size(sheet: &[u8]) -> usize
     ensures { λ r. ⌜ r ≡ sizeOf (now (sheet .entry)) ⌝ }
 {
@@ -115,9 +115,9 @@ fn write(sheet: &[u8], choice: &[u8], input: &[u8], k: usize, out: &mut [u8])
 }
 
 // Answers a whole input: word k is what stands from byte kN on, N symbols or as many as are left, and its record stands at
-// byte 392k of the output: code, place, g, m, d, three zeros, then three strips of 128 bytes, the places past N filled with
-// 255. Where decoding leaves its output untouched, all of the strips is 255. A cut-off last word has its record too.
-// Where the sheet is not 20N bytes long there is one record, of code 11; else, where the choice is not two bytes, one of 13,
+// byte 1,552k of the output: code, place, g, m, d, each as two bytes, the low one first, six zeros, then three strips of 512
+// bytes, the places past N filled with 255. Where decoding leaves its output untouched, all of the strips is 255. A cut-off last word has its record too.
+// Where the sheet is not 68N bytes long there is one record, of code 11; else, where the choice is not two bytes, one of 13,
 // whatever the sheet holds.
 // Answers Done, later bytes as found; or ShortOutput (16), before all else, where the output is too short for the records,
 // and leaves it as found.

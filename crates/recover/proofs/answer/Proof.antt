@@ -1,4 +1,4 @@
-use Rattle.meaning.specs.Limits.{stripWidth}
+use Rattle.meaning.specs.Limits.{headBytes, stripWidth}
 use Rattle.meaning.specs.Stream.{answerBytes}
 use borrow.Author.Needs.{needs}
 use native.Mathlib.Omega.{arith}
@@ -12,7 +12,7 @@ answer-requires : tie.Need-answer-requires
 answer-requires c κs = search needs
 
 mul-write : tie.Need-mul-write
-unfolding answerBytes stripWidth
+unfolding answerBytes headBytes stripWidth
 mul-write c = omega (arith, c .before .before .before .before .before .before .before .before .before .pre, c .before .before .before .before .records .ensures)
 
 sub-write : tie.Need-sub-write
@@ -22,7 +22,7 @@ part-write-start : tie.Need-part-write-start
 part-write-start c = search needs
 
 part-write-end : tie.Need-part-write-end
-unfolding answerBytes stripWidth
+unfolding answerBytes headBytes stripWidth
 part-write-end c =
     let at-out = c .before .before in
     let at-records = at-out .before .before .before in

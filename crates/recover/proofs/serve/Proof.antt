@@ -1,5 +1,6 @@
 use lib.ListN.{length-take}
 use Rattle.meaning.specs.Limits.{largestN}
+use Rattle.recover.specs.Runs.{runWords}
 use Rattle.recover.proofs.Runs.{shape-room, choice-room, ready, ready-same, run-is}
 use borrow.Author.Needs.{needs}
 use native.Mathlib.Omega.{arith}
@@ -55,11 +56,11 @@ part-turns-start : tie.Need-part-turns-start
 part-turns-start c = search needs
 
 part-turns-end : tie.Need-part-turns-end
-unfolding largestN
+unfolding largestN runWords
 part-turns-end c = let (e, l) = run-is _ (c .before .if1 .left) in omega (arith, e, l, c .before .before .before .before .before .before .before .pre .0)
 
 turns-requires : tie.Need-turns-requires
-unfolding largestN
+unfolding largestN runWords
 turns-requires c κs =
     let else2 = c .before .before in
     let else1 = else2 .before in

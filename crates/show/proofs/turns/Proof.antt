@@ -1,6 +1,8 @@
 use mathlib.Core.Path.{_≡_}
 use lib.ListN.{length}
 use borrow.Author.Needs.{needs}
+use Rattle.meaning.specs.Limits.{headBytes, stripWidth}
+use Rattle.meaning.specs.Stream.{answerBytes}
 use Rattle.show.proofs.turns.Statement.{statement}
 use Rattle.show.proofs.turns.Tie as tie
 
@@ -20,12 +22,14 @@ loop-holds : tie.Need-loop-holds Inv-loop μ-loop
 loop-holds c = search needs
 
 two-requires : tie.Need-two-requires Inv-loop μ-loop
+unfolding answerBytes headBytes stripWidth
 two-requires c κs = search needs
 
 counted-requires : tie.Need-counted-requires Inv-loop μ-loop
 counted-requires c κs = search needs
 
 line-requires : tie.Need-line-requires Inv-loop μ-loop
+unfolding answerBytes headBytes stripWidth
 line-requires c κs = search needs
 
 fail-requires : tie.Need-fail-requires Inv-loop μ-loop

@@ -1,4 +1,4 @@
-use Rattle.meaning.specs.Limits.{stripWidth}
+use Rattle.meaning.specs.Limits.{headBytes, stripWidth}
 use Rattle.meaning.specs.Stream.{answerBytes}
 use Rattle.stream.proofs.Streaming.{short, room, streamed}
 use borrow.Author.Needs.{needs}
@@ -9,14 +9,14 @@ records-requires : tie.Need-records-requires
 records-requires c κs = search needs
 
 returns : tie.Need-returns
-unfolding answerBytes stripWidth
+unfolding answerBytes headBytes stripWidth
 returns c =
     let start = c .before .before .before .before .before .before in
     let A = start .args in
     short (A .sheet .now) (A .choice .now) (A .input .now) (A .out .now) _ (c .before .records .ensures) (c .if1 .taken)
 
 write-requires : tie.Need-write-requires
-unfolding answerBytes stripWidth
+unfolding answerBytes headBytes stripWidth
 write-requires c κs =
     let at-records = c .before .before in
     let start = at-records .before .before .before .before .before in
@@ -26,7 +26,7 @@ same-length : tie.Need-same-length
 same-length c = search needs
 
 returns-2 : tie.Need-returns-2
-unfolding answerBytes stripWidth
+unfolding answerBytes headBytes stripWidth
 returns-2 c =
     let at-write = c .before .before in
     let else1 = at-write .before .before in

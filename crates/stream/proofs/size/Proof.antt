@@ -1,7 +1,8 @@
 use mathlib.Core.Path.{sym, ap, _∙_}
 use Prim.Native.Nat.{ℕ, suc, _*_, _≤_, _-_}
 use Rattle.meaning.specs.Limits.{largestN, recordBytes, maskBytes}
-use Rattle.stream.proofs.Counting.{Left, size-start, size-found, size-next, size-none, size-low}
+use Rattle.stream.proofs.Counting.{Left, size-start, size-found, size-next, size-none}
+use lib.Pow.{pow-mono}
 use borrow.Author.Needs.{needs}
 use native.Mathlib.Omega.{arith}
 use Rattle.stream.proofs.size.Statement.{statement}
@@ -23,7 +24,7 @@ size-of-requires c κs = omega arith
 
 mul-if1 : tie.Need-mul-if1 Inv-loop μ-loop
 unfolding largestN
-mul-if1 c = omega (arith, c .size-of .ensures, size-low _ (c .before .loop-test .taken))
+mul-if1 c = omega (arith, c .size-of .ensures, pow-mono (c .before .loop-test .taken))
 
 returns : tie.Need-returns Inv-loop μ-loop
 unfolding largestN recordBytes maskBytes

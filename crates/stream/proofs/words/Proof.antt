@@ -4,7 +4,7 @@ use Prim.Native.Nat.{ℕ, _+_, _*_, _-_, _≤_}
 use lib.ListN.{length, drop, length-take, length-drop}
 use borrow.Rule.Slice.PartMut.{putMid}
 use Rattle.bits.specs.Vectors.{tab}
-use Rattle.meaning.specs.Limits.{stripWidth}
+use Rattle.meaning.specs.Limits.{headBytes, stripWidth}
 use Rattle.meaning.specs.Stream.{answerBytes, answerRecord}
 use Rattle.stream.proofs.Counting.{begins}
 use Rattle.stream.proofs.Streaming.{recordAt, record-long, word-is, put-record}
@@ -23,7 +23,7 @@ size-of-requires : tie.Need-size-of-requires Inv-loop μ-loop
 size-of-requires c κs = c .before .before .before .pre .0
 
 loop-holds : tie.Need-loop-holds Inv-loop μ-loop
-unfolding flatten answerBytes stripWidth
+unfolding flatten answerBytes headBytes stripWidth
 loop-holds c = (omega arith, refl, refl)
 
 mul-from : tie.Need-mul-from Inv-loop μ-loop
@@ -39,7 +39,7 @@ end-of-requires c κs =
     omega (arith, begins (length (start .args .input .now)) (at-size-of .size-of .result) (start .args .n) (c .before .loop .i) (start .args .k) (at-size-of .size-of .ensures) (start .pre .1) (c .loop-test .taken))
 
 mul-to : tie.Need-mul-to Inv-loop μ-loop
-unfolding answerBytes stripWidth
+unfolding answerBytes headBytes stripWidth
 mul-to c = omega (arith, c .before .loop-test .taken, c .before .before .before .before .before .before .before .pre .2)
 
 sub-answer : tie.Need-sub-answer Inv-loop μ-loop
@@ -52,7 +52,7 @@ part-answer-end : tie.Need-part-answer-end Inv-loop μ-loop
 part-answer-end c = search needs
 
 add-answer : tie.Need-add-answer Inv-loop μ-loop
-unfolding answerBytes stripWidth
+unfolding answerBytes headBytes stripWidth
 add-answer c = omega (arith, c .before .before .loop-test .taken, c .before .before .before .before .before .before .before .before .pre .2)
 
 sub-answer-2 : tie.Need-sub-answer-2 Inv-loop μ-loop
@@ -62,7 +62,7 @@ part-answer-start-2 : tie.Need-part-answer-start-2 Inv-loop μ-loop
 part-answer-start-2 c = omega arith
 
 part-answer-end-2 : tie.Need-part-answer-end-2 Inv-loop μ-loop
-unfolding answerBytes stripWidth
+unfolding answerBytes headBytes stripWidth
 part-answer-end-2 c =
     let in-loop = c .before .before in
     let at-loop = in-loop .before in
@@ -70,7 +70,7 @@ part-answer-end-2 c =
     omega (arith, in-loop .loop-test .taken, at-loop .loop .inv .1, start .pre .2)
 
 answer-requires : tie.Need-answer-requires Inv-loop μ-loop
-unfolding answerBytes stripWidth
+unfolding answerBytes headBytes stripWidth
 answer-requires c κs =
     let in-loop = c .before .before .before in
     let at-loop = in-loop .before in
@@ -84,7 +84,7 @@ loop-less : tie.Need-loop-less Inv-loop μ-loop
 loop-less c = search needs
 
 loop-again : tie.Need-loop-again Inv-loop μ-loop
-unfolding answerBytes stripWidth
+unfolding answerBytes headBytes stripWidth
 loop-again c =
     let at-answer = c .before .before in
     let at-end-of = at-answer .before .before .before in
@@ -106,7 +106,7 @@ same-length : tie.Need-same-length Inv-loop μ-loop
 same-length c = search needs
 
 returns : tie.Need-returns Inv-loop μ-loop
-unfolding answerBytes stripWidth
+unfolding answerBytes headBytes stripWidth
 returns c =
     let start = c .before .before .before .before .before .before in
     let l = c .before .loop in

@@ -1,6 +1,6 @@
 use Prim.Native.Nat.{_-_}
 use lib.ListN.{length-take}
-use Rattle.meaning.specs.Limits.{largestN, stripWidth}
+use Rattle.meaning.specs.Limits.{largestN, headBytes, stripWidth}
 use Rattle.meaning.specs.Stream.{answerBytes}
 use Rattle.stream.proofs.Streaming.{shape-room, shape-alone, choice-room, choice-alone, words-count, words-all}
 use borrow.Author.Needs.{needs}
@@ -18,14 +18,14 @@ part-refuse-start : tie.Need-part-refuse-start
 part-refuse-start c = search needs
 
 part-refuse-end : tie.Need-part-refuse-end
-unfolding answerBytes stripWidth largestN
+unfolding answerBytes headBytes stripWidth largestN
 part-refuse-end c =
     let start = c .before .before .before .before .before .before in
     let A = start .args in
     shape-room (A .sheet .now) (A .choice .now) (A .input .now) (A .out .now) _ (c .before .size .ensures) (A .k) (start .pre .0) (c .if1 .taken) (start .pre .1)
 
 refuse-requires : tie.Need-refuse-requires
-unfolding answerBytes stripWidth largestN
+unfolding answerBytes headBytes stripWidth largestN
 refuse-requires c κs =
     let at-size = c .before .before in
     let start = at-size .before .before .before .before .before in
@@ -38,7 +38,7 @@ part-refuse-start-2 : tie.Need-part-refuse-start-2
 part-refuse-start-2 c = search needs
 
 part-refuse-end-2 : tie.Need-part-refuse-end-2
-unfolding answerBytes stripWidth largestN
+unfolding answerBytes headBytes stripWidth largestN
 part-refuse-end-2 c =
     let at-size = c .before .before in
     let start = at-size .before .before .before .before .before in
@@ -46,7 +46,7 @@ part-refuse-end-2 c =
     choice-room (A .sheet .now) (A .choice .now) (A .input .now) (A .out .now) _ (at-size .size .ensures) (A .k) (start .pre .0) (c .before .if1 .left) (c .if2 .taken) (start .pre .1)
 
 refuse-requires-2 : tie.Need-refuse-requires-2
-unfolding answerBytes stripWidth largestN
+unfolding answerBytes headBytes stripWidth largestN
 refuse-requires-2 c κs =
     let else1 = c .before .before in
     let at-size = else1 .before in
@@ -78,7 +78,7 @@ same-length : tie.Need-same-length
 same-length c = search needs
 
 returns : tie.Need-returns
-unfolding answerBytes stripWidth largestN
+unfolding answerBytes headBytes stripWidth largestN
 returns c =
     let at-refuse = c .before .before in
     let then1 = at-refuse .before .before in
@@ -91,7 +91,7 @@ same-length-2 : tie.Need-same-length-2
 same-length-2 c = search needs
 
 returns-2 : tie.Need-returns-2
-unfolding answerBytes stripWidth largestN
+unfolding answerBytes headBytes stripWidth largestN
 returns-2 c =
     let at-refuse2 = c .before .before in
     let then2 = at-refuse2 .before .before in

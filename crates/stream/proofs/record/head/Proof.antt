@@ -1,5 +1,6 @@
 use mathlib.Core.List.{flatten}
 use borrow.Author.Needs.{needs}
+use Rattle.meaning.specs.Limits.{headBytes}
 use Rattle.stream.proofs.Laying.{headed}
 use Rattle.stream.proofs.record.head.Statement.{statement}
 use Rattle.stream.proofs.record.head.Tie as tie
@@ -68,7 +69,7 @@ cast-t58 : tie.Need-cast-t58
 cast-t58 c = search needs
 
 returns : tie.Need-returns
-unfolding flatten
+unfolding flatten headBytes
 returns c = headed (c .before .args .a) _ (c .numbers .ensures)
 
 pub head-spec : {M : Type 1} → statement M
