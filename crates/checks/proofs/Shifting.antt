@@ -1,66 +1,36 @@
 -- The shift register over words, and the loops that run it.
---     tap-is                   the bits of the word of coefficients are the check polynomial's
+--     no-term                  there are check polynomials of length 6 and 11 alone
 --     fed-is, checks-is        the code's register is the model's, over words
 --     fed-tapped, ..-tapped    a shift is a move and then the terms, one by one
 --     Started, started-..      the register with its first words set
 --     Dividing, dividing-..    the free positions of a column, fed so far
 use mathlib.Core.Path.{_≡_, refl, sym, ap, ap₂, _∙_}
-use Prim.Native.Nat.{ℕ, zero, suc, _+_, _-_, _*_, _/_, _%_, _^_, _≤_, _<_}
+use Prim.Native.Nat.{ℕ, zero, suc, _+_, _-_, _*_, _≤_, _<_}
 use native.Mathlib.Omega.{arith}
-use native.Mathlib.Nat.{zero-div}
 use native.Mathlib.Numerals.{add-one}
 use mathlib.Core.Bool.{Bool, true, false}
 use mathlib.Core.List.{List, [], _∷_, _++_, append-nil, append-assoc}
 use lib.ListN.{length-set, List·getD-append, length, take, drop, getD, set, replicate, length-append, length-map, length-replicate, replicate-append-replicate, drop-of-length-le}
 use lib.Seq.{getD-at, ext-getD, drop-cons, take-suc-set, take-all}
-use lib.Dec.{eqb, ltb}
+use lib.Dec.{ltb}
 use lib.Bits.{bitXor, xor-zero-r}
-use borrow.Author.Tests.{eqb-true, ltb-true, ltb-false}
-use Rattle.bits.specs.Vectors.{pick, any, tab}
+use borrow.Author.Tests.{ne-eqb, ltb-true, ltb-false}
+use Rattle.bits.specs.Vectors.{pick, tab}
 use Rattle.bits.proofs.Tests.{length-tab, tab-at, tab-below}
 use Rattle.bits.proofs.RowLaws.{row-fit}
 use Rattle.meaning.specs.Limits.{leads}
 use Rattle.meaning.specs.Sheet.{Rule, free, ruleAt, byte}
-use Rattle.meaning.specs.Check.{poly, terms}
+use Rattle.meaning.specs.Check.{poly}
 use Rattle.meaning.proofs.Remainder.{length-poly}
 use Rattle.model.specs.Model.{freeOf, sums, scaled, shiftOf, restOf, checks}
 use Rattle.counting.proofs.Counting.{rule-free, rule-frozen}
-use Rattle.checks.specs.Registers.{wordValues, unitWord, column, tapsOf, moved, fedAt, fed, tapped, plusAt, fedAll, remainder}
+use Rattle.checks.specs.Registers.{wordValues, unitWord, column, moved, fedAt, fed, tapped, plusAt, fedAll, remainder}
 
 -- ---- the polynomial
 
-pub tap-is : (r j : ℕ) → j < r → eqb (tapsOf r / 2 ^ j % 2) 1 ≡ getD (poly r) j false
-unfolding tapsOf poly
-tap-is r j h = go (eqb r 6) (eqb r 11) refl refl
-  where
-    six : (j : ℕ) → j < 6 → eqb (33 / 2 ^ j % 2) 1 ≡ getD (tab 6 (λ (k : ℕ). any (eqb (6 - suc k)) (terms 6))) j false
-    six zero q = refl
-    six (suc zero) q = refl
-    six (suc (suc zero)) q = refl
-    six (suc (suc (suc zero))) q = refl
-    six (suc (suc (suc (suc zero)))) q = refl
-    six (suc (suc (suc (suc (suc zero))))) q = refl
-    six (suc (suc (suc (suc (suc (suc j)))))) q = absurd (omega arith)
-
-    eleven : (j : ℕ) → j < 11 → eqb (1059 / 2 ^ j % 2) 1 ≡ getD (tab 11 (λ (k : ℕ). any (eqb (11 - suc k)) (terms 11))) j false
-    eleven zero q = refl
-    eleven (suc zero) q = refl
-    eleven (suc (suc zero)) q = refl
-    eleven (suc (suc (suc zero))) q = refl
-    eleven (suc (suc (suc (suc zero)))) q = refl
-    eleven (suc (suc (suc (suc (suc zero))))) q = refl
-    eleven (suc (suc (suc (suc (suc (suc zero)))))) q = refl
-    eleven (suc (suc (suc (suc (suc (suc (suc zero))))))) q = refl
-    eleven (suc (suc (suc (suc (suc (suc (suc (suc zero)))))))) q = refl
-    eleven (suc (suc (suc (suc (suc (suc (suc (suc (suc zero))))))))) q = refl
-    eleven (suc (suc (suc (suc (suc (suc (suc (suc (suc (suc zero)))))))))) q = refl
-    eleven (suc (suc (suc (suc (suc (suc (suc (suc (suc (suc (suc j))))))))))) q = absurd (omega arith)
-
-    go : (x y : Bool) → eqb r 6 ≡ x → eqb r 11 ≡ y
-        → eqb (pick x 33 (pick y 1059 0) / 2 ^ j % 2) 1 ≡ getD (tab r (λ (k : ℕ). any (eqb (r - suc k)) (pick x (5 ∷ 0 ∷ []) (pick y (10 ∷ 9 ∷ 5 ∷ 0 ∷ []) [])))) j false
-    go true y p q = let e = eqb-true r 6 p in let i : j < 6 = omega arith in rw e (six j i)
-    go false true p q = let e = eqb-true r 11 q in let i : j < 11 = omega arith in rw e (eleven j i)
-    go false false p q = rw (tab-at r (λ (k : ℕ). false) j false h, zero-div (2 ^ j)) refl
+pub no-term : (r j : ℕ) → (r ≡ 6 → ⊥) → (r ≡ 11 → ⊥) → j < r → getD (poly r) j false ≡ false
+unfolding poly
+no-term r j a b h = rw (ne-eqb r 6 a, ne-eqb r 11 b) (tab-at r (λ (k : ℕ). false) j false h)
 
 -- ---- the model's register
 

@@ -7,21 +7,19 @@
 --     fed-ring                         all of a shift
 use mathlib.Core.Path.{_≡_, refl, sym, ap, ap₂, _∙_}
 use mathlib.Core.Logic.{_⊎_, inl, inr, ⊎-elim}
-use Prim.Native.Nat.{ℕ, zero, suc, _+_, _-_, _/_, _%_, _^_, _≤_, _<_}
+use Prim.Native.Nat.{ℕ, suc, _+_, _-_, _≤_, _<_}
 use native.Mathlib.Omega.{arith}
-use native.Mathlib.Nat.{zero-div}
-use mathlib.Core.Bool.{Bool, true, false}
+use mathlib.Core.Bool.{Bool, false}
 use mathlib.Core.List.{List, [], _∷_, _++_, append-nil}
 use lib.ListN.{length, take, drop, getD, set, length-set, length-append, length-drop, List·getD-append}
 use lib.Seq.{getD-append-add, getD-drop, getD-take, getD-at, getD-set-same, getD-set-other, ext-getD, length-take-le}
-use lib.Dec.{eqb, ltb}
 use lib.Bits.{bitXor, xor-zero-r}
-use borrow.Author.Tests.{lt-ltb, le-ltb, ne-eqb}
+use borrow.Author.Tests.{lt-ltb, le-ltb}
 use Rattle.bits.specs.Vectors.{pick, tab}
 use Rattle.bits.proofs.Tests.{tab-getD, eq-or-ne, le-or-lt}
 use Rattle.meaning.specs.Check.{poly}
-use Rattle.checks.specs.Registers.{tapsOf, slot, turned, plusAt, tapped, fed}
-use Rattle.checks.proofs.Shifting.{tap-is, fed-tapped, six-tapped, eleven-tapped}
+use Rattle.checks.specs.Registers.{slot, turned, plusAt, tapped, fed}
+use Rattle.checks.proofs.Shifting.{no-term, fed-tapped, six-tapped, eleven-tapped}
 
 module _ (r h j : ℕ) where
   pub slot-near : h + j < r → h + j ≡ slot r h j
@@ -164,11 +162,10 @@ module _ (r : ℕ) (s s′ : List ℕ) (o : ℕ) (l : length s ≡ r) where
   taps-eleven e q = q ∙ eleven-tapped s o (l ∙ e) ∙ ap (λ (m : ℕ). tapped m s o) (sym e)
 
 pub taps-none : (r : ℕ) (s : List ℕ) (o : ℕ) → length s ≡ r → (r ≡ 6 → ⊥) → (r ≡ 11 → ⊥) → s ≡ tapped r s o
-unfolding tapsOf
 taps-none r s o l a b =
     let f : ℕ → ℕ = λ j. bitXor (getD s j 0) (pick (getD (poly r) j false) o 0) in
     sym (ap (λ (m : ℕ). tab m f) (sym l) ∙ tab-getD s 0 f (λ j h.
-    let t : getD (poly r) j false ≡ false = sym (tap-is r j (omega arith)) ∙ rw (ne-eqb r 6 a, ne-eqb r 11 b, zero-div (2 ^ j)) refl in
+    let t : getD (poly r) j false ≡ false = no-term r j a b (omega arith) in
     ap (λ (x : Bool). bitXor (getD s j 0) (pick x o 0)) t ∙ xor-zero-r (getD s j 0)))
 
 -- ---- a shift

@@ -2,7 +2,6 @@
 --     wordValues unit      words as the decoder's values
 --     unitWord c k         word k of the constant's row
 --     column w n l k       word k of each of the first n rows of w words
---     tapsOf r             the coefficients of the check polynomial, bit j for the j-th from D^(r-1) down
 --     fed r s b            the register s of r words once the word b went in
 --     tapped, plusAt       a word added where the polynomial has terms, and at one place
 --     turned p h, slot     a ring of words whose first place is h, and where place j is
@@ -32,10 +31,6 @@ abbrev pub column : ℕ → ℕ → List ℕ → ℕ → List ℕ
 column w n l k = tab n (λ (i : ℕ). getD l (i * w + k) 0)
 
 -- ---- the register
-
--- D^5 + 1, and D^10 + D^9 + D^5 + 1, the highest power at bit 0
-unfoldable pub tapsOf : ℕ → ℕ
-tapsOf r = pick (eqb r 6) 33 (pick (eqb r 11) 1059 0)
 
 -- what stands at place j after the shift: the word behind it, or the new one
 abbrev pub moved : List ℕ → ℕ → ℕ → ℕ

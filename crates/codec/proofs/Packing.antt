@@ -7,7 +7,7 @@
 use mathlib.Core.Path.{_≡_, refl, sym, ap, ap₂, _∙_}
 use Prim.Native.Nat.{ℕ, zero, suc, _+_, _*_, _/_, _%_, _^_, _<_, _≤_}
 use native.Mathlib.Omega.{arith}
-use native.Mathlib.Nat.{suc-inj, zero-mul, one-mul, lt-of-lt-of-le}
+use native.Mathlib.Nat.{suc-inj, zero-mul, one-mul}
 use native.Mathlib.Decide.{decLt, ℕ-discrete}
 use mathlib.Core.Bool.{Bool, true, false, _&&_}
 use mathlib.Core.List.{List, [], _∷_, _++_}
@@ -15,7 +15,6 @@ use lib.ListN.{length, getD, length-append, length-set, replicate, length-replic
 use lib.Seq.{getD-set-same, getD-set-other, getD-append-seam}
 use lib.Dec.{eqb}
 use lib.Bits.{bitAnd, bitXor}
-use lib.Pow.{pow-mono, shl-exact}
 use lib.Count.{ones}
 use borrow.Author.Tests.{eq-eqb, ne-eqb}
 use Rattle.bits.specs.Vectors.{_⊕_, bit, tab, odd}
@@ -23,7 +22,7 @@ use Rattle.bits.specs.Words.{hasBit, parityOf, wordBits}
 use Rattle.bits.proofs.Xor.{⊕-assoc, ⊕-comm, ⊕-false}
 use Rattle.bits.proofs.Words.{bit-cases, mod-two, xor-bit}
 use Rattle.bits.proofs.Tests.{and-false, length-tab, tab-at, tab-below, tab-append}
-use Rattle.bits.proofs.WordBits.{hasBit-xor, zero-bit, bit-same, bit-other, odd-wordBits, wordBits-tab, join-bits, join-lt}
+use Rattle.bits.proofs.WordBits.{hasBit-xor, zero-bit, bit-same, bit-other, odd-wordBits, wordBits-tab}
 use Rattle.meaning.specs.Limits.{maskBytes}
 use Rattle.meaning.specs.Sheet.{names, mask}
 use Rattle.meaning.specs.Answers.{isOne}

@@ -18,7 +18,7 @@ use Rattle.bits.proofs.Tests.{eq-or-ne}
 use Rattle.bits.proofs.RowLaws.{length-⊻, getD-⊻, length-part, getD-part, length-written, paste-part, paste-apart, row-fit, length-row, row-room, row-same, row-other, rows-apart, copiedWithin-fits, addedWithin-fits}
 use Rattle.model.specs.Model.{leftSym, rightSym}
 use Rattle.ruling.specs.Values.{rowValues}
-use Rattle.descent.specs.Block.{slotOf, due, symAt, Paired, Split, PartOne, Parted, SettleOne, Settled, Joined}
+use Rattle.descent.specs.Block.{slotOf, due, symAt, Paired, PartOne, Parted, SettleOne, Settled, Joined}
 
 -- ---- rows of a block of n slots, copied or added
 

@@ -3,7 +3,6 @@ ghost use mathlib.Core.Path.{_≡_};
 ghost use mathlib.Core.Bool.{_&&_, not};
 ghost use Prim.Native.Nat.{_+_, _*_, _^_, _<_, _≤_};
 ghost use lib.ListN.{length};
-ghost use lib.Dec.{eqb};
 ghost use Rattle.bits.specs.Vectors.{tab, firstPlace};
 ghost use Rattle.meaning.specs.Limits.{largestN, recordBytes, maskBytes};
 ghost use Rattle.meaning.specs.Sheet.{byte, fine};

@@ -5,14 +5,14 @@
 --     block-good           what a block gives is good
 --     block-keeps          what a block gives agrees with its symbols
 use mathlib.Core.Path.{_≡_, refl, sym, ap, ap₂, subst, _∙_}
-use Prim.Native.Nat.{ℕ, zero, suc, _+_, _^_, _≤_}
+use Prim.Native.Nat.{ℕ, zero, suc, _+_, _^_}
 use native.Mathlib.Omega.{arith}
 use mathlib.Core.Bool.{Bool, true, false}
 use mathlib.Core.List.{List, [], _∷_, _++_}
 use mathlib.Core.Option.{Option, none, some}
 use lib.ListN.{length, take, drop, length-take, length-drop, take-append-drop}
 use Rattle.meaning.specs.Sheet.{Rule, free, frozen}
-use Rattle.model.specs.Model.{Values, Walk, Out, sums, gate, named, ruleValue, leftSym, rightSym, leftSyms, rightSyms, valueAt, decode}
+use Rattle.model.specs.Model.{Values, Walk, sums, gate, named, leftSyms, rightSyms, valueAt, decode}
 
 pub record Closed {A : Type 0} (P : A → Type 0) (𝓥 : Values A) : Type 0 where
   pub plus : {a b : A} → P a → P b → P (𝓥 .plus a b)

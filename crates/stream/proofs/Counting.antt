@@ -12,7 +12,7 @@ use mathlib.Core.Bool.{Bool}
 use mathlib.Core.List.{List, [], _∷_}
 use lib.ListN.{length, drop, getD}
 use lib.Dec.{eqb}
-use lib.Pow.{pow-mono, pow-pos}
+use lib.Pow.{pow-pos}
 use borrow.Author.Tests.{eq-eqb, ne-eqb, lt-ltb, le-ltb}
 use Rattle.bits.specs.Vectors.{tab, firstPlace}
 use Rattle.bits.proofs.Tests.{tab-at, length-tab, place-found, place-next, place-end}

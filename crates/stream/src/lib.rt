@@ -116,7 +116,8 @@ fn write(sheet: &[u8], choice: &[u8], input: &[u8], k: usize, out: &mut [u8])
 
 // Answers a whole input: word k is what stands from byte kN on, N symbols or as many as are left, and its record stands at
 // byte 1,552k of the output: code, place, g, m, d, each as two bytes, the low one first, six zeros, then three strips of 512
-// bytes, the places past N filled with 255. Where decoding leaves its output untouched, all of the strips is 255. A cut-off last word has its record too.
+// bytes, the places past N filled with 255. Where decoding leaves its output untouched, all of the strips is 255. A cut-off
+// last word has its record too.
 // Where the sheet is not 68N bytes long there is one record, of code 11; else, where the choice is not two bytes, one of 13,
 // whatever the sheet holds.
 // Answers Done, later bytes as found; or ShortOutput (16), before all else, where the output is too short for the records,

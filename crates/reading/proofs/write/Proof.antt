@@ -1,6 +1,6 @@
 use Prim.Native.Nat.{_/_, zero-le}
 use native.Mathlib.Omega.{arith}
-use lib.ListN.{length, length-take, length-drop}
+use lib.ListN.{length}
 use borrow.Author.Needs.{needs}
 use Rattle.reading.proofs.Assembling.{written, as-long}
 use Rattle.reading.proofs.write.Statement.{statement}

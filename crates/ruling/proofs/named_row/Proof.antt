@@ -1,8 +1,7 @@
-use mathlib.Core.Path.{sym, _∙_}
+use mathlib.Core.Path.{_∙_}
 use Prim.Native.Nat.{_-_, _+_, _≤_}
 use native.Mathlib.Omega.{arith}
 use Rattle.bits.proofs.RowLaws.{row-fit}
-use Rattle.meaning.specs.Limits.{maskBytes, recordBytes}
 use Rattle.ruling.proofs.Rules.{Sum, sum-start, sum-all, sum-skip, sum-next}
 use Rattle.ruling.proofs.named_row.Statement.{statement}
 use Rattle.ruling.proofs.named_row.Tie as tie

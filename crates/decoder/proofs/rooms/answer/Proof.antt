@@ -1,5 +1,4 @@
 use native.Mathlib.Omega.{arith}
-use borrow.Author.Needs.{needs}
 use Rattle.meaning.specs.Limits.{largestN, largestCeiling}
 use Rattle.descent.specs.Descending.{widest}
 use Rattle.decoder.specs.Rooms.{fewWords, someWords, manyWords, mostWords}

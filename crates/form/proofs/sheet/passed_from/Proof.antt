@@ -1,4 +1,3 @@
-use native.Mathlib.Omega.{arith}
 use borrow.Author.Needs.{needs}
 use Rattle.masks.proofs.Joining.{word-here}
 use Rattle.form.proofs.Records.{word-passed, word-stops}

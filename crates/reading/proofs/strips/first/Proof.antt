@@ -1,8 +1,7 @@
-use mathlib.Core.Path.{sym, ap, _∙_}
-use Prim.Native.Nat.{_-_, _*_}
+use mathlib.Core.Path.{ap, _∙_}
+use Prim.Native.Nat.{_-_}
 use native.Mathlib.Omega.{arith}
 use lib.ListN.{length}
-use borrow.Author.Needs.{needs}
 use Rattle.bits.specs.Rows.{row}
 use Rattle.verdict.specs.Reading.{rowFirst}
 use Rattle.reading.specs.Words.{firstWords}
