@@ -1,5 +1,6 @@
 -- The laws of the definitions, in reading order.
 --     Polar, Formula            the transform
+--     Layouts                   a sheet of today is one in today's layout
 --     Sound                     a sheet with no bad record
 --     Remainder, Divide         the check
 --     Ones                      its sequence: r ones, then the free bits
@@ -19,6 +20,7 @@
 --     Bench                     the starred examples
 pub mod Polar
 pub mod Formula
+pub mod Layouts
 pub mod Sound
 pub mod Remainder
 pub mod Divide

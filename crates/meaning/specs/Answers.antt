@@ -3,7 +3,7 @@
 --     Refusal, firstOf     a row of a table of refusals; the first that applies is given
 --     refuses              whether a row applies
 --     Reply                an answer, and the bytes of the output buffer after the call
---     checking             the sheet alone, with its r
+--     checking             the sheet alone, with its r; checkingIn L, a sheet in any layout (proofs/Layouts)
 --     wording              a word alone
 --     encoding, readingBack, decoding      the calls with a buffer
 -- `s` is the sheet, `w` the word, `p` the payload, `c` the ceiling, `out` the buffer as found.
@@ -13,8 +13,8 @@ use mathlib.Core.List.{List, [], _∷_, _++_, map}
 use lib.ListN.{length, drop}
 use lib.Dec.{eqb, leb, ltb}
 use Rattle.bits.specs.Vectors.{bit, pick, any, firstPlace}
-use Rattle.meaning.specs.Limits.{largestN, recordBytes, largestCeiling}
-use Rattle.meaning.specs.Sheet.{Rule, rules, badRecord, frees}
+use Rattle.meaning.specs.Limits.{Layout, layout, largestCeiling}
+use Rattle.meaning.specs.Sheet.{Rule, rules, badRecord, rulesIn, badIn, frees}
 use Rattle.meaning.specs.Codewords.{candidates, payloadOf, carrying}
 use Rattle.meaning.specs.Open.{unknowns, equations}
 use Rattle.meaning.specs.Strips.{first, strips, dimension}
@@ -76,21 +76,27 @@ abbrev pub refuses : List Refusal → Bool
 refuses ts = any (λ (t : Refusal). t .applies) ts
 
 -- 11: n above the largest, or a sheet that is not N records long
+abbrev pub badShapeIn : Layout → ℕ → List ℕ → Bool
+badShapeIn L n s = ltb (L .largest) n || not (eqb (length s) (2 ^ n * L .bytes))
+
 unfoldable pub badShape : ℕ → List ℕ → Bool
-badShape n s = ltb largestN n || not (eqb (length s) (2 ^ n * recordBytes))
+badShape n s = badShapeIn layout n s
 
 -- 13: r not 0, 6, 11, or r > 0 and K ≤ r
 unfoldable pub badCheck : ℕ → ℕ → Bool
 badCheck r k = not (eqb r 0 || eqb r 6 || eqb r 11) || (ltb 0 r && leb k r)
 
--- the sheet's faults, in every call: 11, 12, 19 (no free position), 13
-unfoldable pub sheetRefusals : ℕ → List ℕ → ℕ → List Refusal
-sheetRefusals n s r =
-    (badShape n s ⇒ BadShape)
-    ∷ (ltb (badRecord n s) (2 ^ n) ⇒ BadRecord (badRecord n s))
-    ∷ (eqb (frees (rules n s)) 0 ⇒ HoldsNothing)
-    ∷ (badCheck r (frees (rules n s)) ⇒ BadCheck)
+-- the sheet's faults, in every call: 11, 12, 19 (no free position), 13; of its shape, its first bad record, and K
+abbrev pub sheetFaults : ℕ → ℕ → Bool → ℕ → ℕ → List Refusal
+sheetFaults n r shape bad k =
+    (shape ⇒ BadShape)
+    ∷ (ltb bad (2 ^ n) ⇒ BadRecord bad)
+    ∷ (eqb k 0 ⇒ HoldsNothing)
+    ∷ (badCheck r k ⇒ BadCheck)
     ∷ []
+
+unfoldable pub sheetRefusals : ℕ → List ℕ → ℕ → List Refusal
+sheetRefusals n s r = sheetFaults n r (badShape n s) (badRecord n s) (frees (rules n s))
 
 -- 14, 15, 16: a word not as long as wanted, its first symbol above the top, an output shorter than needed
 unfoldable pub wordRefusals : ℕ → ℕ → ℕ → List ℕ → ℕ → List Refusal
@@ -104,6 +110,9 @@ wordRefusals wanted top needed w room =
 
 unfoldable pub checking : ℕ → List ℕ → ℕ → Answer
 checking n s r = firstOf (λ (a : Answer). a) (sheetRefusals n s r) Done
+
+unfoldable pub checkingIn : Layout → ℕ → List ℕ → ℕ → Answer
+checkingIn L n s r = firstOf (λ (a : Answer). a) (sheetFaults n r (badShapeIn L n s) (badIn L n s) (frees (rulesIn L n s))) Done
 
 -- ---- a word alone, with what its call wants and the room it is given
 

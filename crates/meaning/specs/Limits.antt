@@ -3,6 +3,8 @@
 --     largestN          N = 2 ^ n symbols, n from 0 to this
 --     maskBytes         bytes of a record's mask
 --     recordBytes       bytes of a record of the sheet: 4, then the mask
+--     Layout            how sheets are laid out; `layout` is today's, `oldLayout` the one before W-206, which is only converted
+--     oldLargestN, oldMaskBytes, oldRecordBytes     the numbers of that one
 --     largestCeiling    the ceiling on unknowns is 0 to this
 --     headBytes         bytes of an answer record before its strips
 --     stripWidth        bytes of a strip in an answer record
@@ -21,6 +23,31 @@ maskBytes = 64
 unfoldable pub recordBytes : ℕ
 unfolding maskBytes
 recordBytes = 4 + maskBytes
+
+-- ---- layouts: n from 0 to `largest`; records of `bytes` bytes, of which the last `mask` are the mask
+
+pub record Layout : Type 0 where
+  pub largest : ℕ
+  pub mask : ℕ
+  pub bytes : ℕ
+
+abbrev pub layout : Layout
+layout = record { largest = largestN; mask = maskBytes; bytes = recordBytes }
+
+unfoldable pub oldLargestN : ℕ
+oldLargestN = 7
+
+unfoldable pub oldMaskBytes : ℕ
+oldMaskBytes = 16
+
+unfoldable pub oldRecordBytes : ℕ
+unfolding oldMaskBytes
+oldRecordBytes = 4 + oldMaskBytes
+
+abbrev pub oldLayout : Layout
+oldLayout = record { largest = oldLargestN; mask = oldMaskBytes; bytes = oldRecordBytes }
+
+-- ---- answers
 
 unfoldable pub largestCeiling : ℕ
 largestCeiling = 255

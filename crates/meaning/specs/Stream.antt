@@ -2,7 +2,7 @@
 --     twoBytes x           a number as two bytes, low first
 --     header a             the bytes of an answer record before its strips
 --     answerRecord         the record of one word
---     sizeOf s             the n of a sheet, from its length
+--     sizeOf s             the n of a sheet, from its length; sizeIn L s, in any layout
 --     records              all records that an input gets
 --     streaming            what the call answers and leaves in its buffer
 -- `s` is the sheet, `ch` the choice (two bytes: r, ceiling), `input` the words end to end.
@@ -12,7 +12,7 @@ use mathlib.Core.List.{List, [], _∷_, _++_, map, flatten}
 use lib.ListN.{length, take, drop, getD, replicate}
 use lib.Dec.{eqb, ltb}
 use Rattle.bits.specs.Vectors.{pick, tab, firstPlace}
-use Rattle.meaning.specs.Limits.{largestN, recordBytes, headBytes, stripWidth}
+use Rattle.meaning.specs.Limits.{Layout, layout, largestN, headBytes, stripWidth}
 use Rattle.meaning.specs.Answers.{numbersOf, Reply, _⇒_, firstOf, leaving, writing, decoding}
 use Rattle.meaning.specs.declared.Answer.{Answer}
 use Rattle.meaning.specs.declared.Answer.the-variants.{Done, BadShape, BadCheck, ShortOutput}
@@ -50,8 +50,11 @@ refusedRecord a = header a ++ replicate (3 * stripWidth) 255
 -- ---- the whole input
 
 -- the n up to the largest for which the sheet is N records long, or one more than the largest
+abbrev pub sizeIn : Layout → List ℕ → ℕ
+sizeIn L s = firstPlace (λ (n : ℕ). eqb (length s) (2 ^ n * L .bytes)) (tab (suc (L .largest)) (λ (n : ℕ). n))
+
 unfoldable pub sizeOf : List ℕ → ℕ
-sizeOf s = firstPlace (λ (n : ℕ). eqb (length s) (2 ^ n * recordBytes)) (tab (suc largestN) (λ (n : ℕ). n))
+sizeOf s = sizeIn layout s
 
 -- input bytes divided by N, rounded up
 unfoldable pub roundedUp : ℕ → ℕ → ℕ

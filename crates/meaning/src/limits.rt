@@ -13,6 +13,18 @@ pub const RECORD: usize = 4 + MASK;
 // The most positions: one for each bit of a mask.
 pub const POSITIONS: usize = 8 * MASK;
 
+// The same numbers of the sheets before W-206, which are only converted.
+pub const OLD_LARGEST_N: usize = 7;
+
+// Bytes of the mask of an old record.
+pub const OLD_MASK: usize = 16;
+
+// Bytes of an old record.
+pub const OLD_RECORD: usize = 4 + OLD_MASK;
+
+// The most positions of an old sheet.
+pub const OLD_POSITIONS: usize = 8 * OLD_MASK;
+
 // The ceiling on unknowns is 0 to this.
 pub const LARGEST_CEILING: usize = 255;
 
