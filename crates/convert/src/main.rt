@@ -1,71 +1,67 @@
-// Converts an old sheet: standard input holds N records of 20 bytes, N = 1, 2, 4, .. 128, and standard output gets N records of
-// 68. Where the sheet is refused it says why on standard error and writes nothing. The work is `sheet_convert::convert`.
-ghost use Prim.Native.Nat.{_≤_};
-ghost use lib.ListN.{length};
+// Converts an old sheet: standard input holds N records of 20 bytes, N = 1, 2, 4, .. 128, and standard output gets the same sheet
+// as N records of 68. Where it cannot be read to its end, or is refused, nothing is written, and standard error says why. The
+// work is `sheet_convert::convert`.
 use libc::STDERR_FILENO;
 use libc::STDIN_FILENO;
 use libc::STDOUT_FILENO;
 use meaning::limits;
 
-// One byte more than the longest old sheet, so that a longer one is seen.
-const SHEET: usize = 2561;
-
-// Bytes of the longest old sheet, converted.
-const LONGEST: usize = 128 * limits::RECORD;
+// One byte more than the longest sheet, so that a longer one is seen. A sheet of today is read too, and known by its length.
+const SHEET: usize = limits::POSITIONS * limits::RECORD + 1;
 
 // Says why nothing is written.
 fn say(s: &[u8]) {
     io::write_all(STDERR_FILENO, s);
 }
 
-// The n of an old sheet of N = 2 to the n records, from its length; 8 where there is none.
-fn exponent(len: usize) -> usize {
-    match len {
-        20 => 0,
-        40 => 1,
-        80 => 2,
-        160 => 3,
-        320 => 4,
-        640 => 5,
-        1280 => 6,
-        2560 => 7,
-        _ => 8,
-    }
+// Whether standard input has been read to its end.
+fn ended() -> bool {
+    let mut more = [0u8; 1];
+    libc::read(STDIN_FILENO, &mut more) == 0
 }
 
-// Says what a refusal means, and where.
-fn refuse(code: usize, place: usize) {
+// Says that a record breaks a rule, and which.
+fn say_place(place: usize) {
     let mut text = [0u8; 20];
-    if code == 11 {
-        say(b"convert: 11, the sheet is not 20 N bytes long for an N up to 128\n");
+    let k = io::decimal(place as u64, &mut text);
+    say(b"convert: 12, a record breaks a rule, the first at place ");
+    say(&text[0..k]);
+    say(b", counted from 0\n");
+}
+
+// Says what a refusal means.
+fn refuse(old: &[u8], code: usize, place: usize) {
+    if code == 12 {
+        say_place(place);
+    } else if stream::size(old) <= limits::LARGEST_N {
+        say(b"convert: 11, the sheet has records of 68 bytes already, and needs no converting\n");
     } else {
-        let k = io::decimal(place as u64, &mut text);
-        say(b"convert: 12, this record breaks a rule: ");
-        say(&text[0..k]);
-        say(b"\n");
+        say(b"convert: 11, the sheet is not 20 N bytes long for an N of 1, 2, 4, .. 128\n");
     }
 }
 
-// Converts a sheet and writes what it becomes.
-fn turn(old: &[u8], out: &mut [u8])
-    requires { ⌜ 8704 ≤ length (now out) ⌝ }
-{
-    let v = meaning::numbers(sheet_convert::convert(exponent(old.len()), old, out));
-    if v[0] != 0 {
-        refuse(v[0], v[1]);
+// Converts a sheet and writes what it becomes, or says why not.
+fn turn(old: &[u8], out: &mut [u8]) {
+    let n = sheet_convert::old_size(old);
+    let a = sheet_convert::convert(n, old, out);
+    if !meaning::is_done(a) {
+        let v = meaning::numbers(a);
+        refuse(old, v[0], v[1]);
         return;
     }
-    if old.len() / 20 <= 128 {
-        let k = old.len() / 20 * limits::RECORD;
-        if !io::write_all(STDOUT_FILENO, &out[0..k]) {
-            say(b"convert: cannot write\n");
-        }
+    let k = old.len() / limits::OLD_RECORD * limits::RECORD;
+    if !io::write_all(STDOUT_FILENO, &out[0..k]) {
+        say(b"convert: cannot write, the sheet is not whole\n");
     }
 }
 
 fn main() {
     let mut old = [0u8; SHEET];
-    let mut out = [0u8; LONGEST];
+    let mut out = [0u8; sheet_convert::LONGEST];
     let got = io::read_full(STDIN_FILENO, &mut old);
+    if got < SHEET && !ended() {
+        say(b"convert: cannot read the sheet to its end\n");
+        return;
+    }
     turn(&old[0..got], &mut out);
 }

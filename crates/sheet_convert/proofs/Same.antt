@@ -1,96 +1,95 @@
--- A converted sheet is the same code.
---     same-keeps     a vector keeps grown rules where it keeps the rules
---     same-code      the codewords of a converted sheet are those of the old one, in the same order
---     same-frees     and so is the number of free positions
---     same-check     the new check with any r: never 11; the first bad record, 19 and 13 as of the old sheet
+-- A widened sheet is the same code, in any two layouts of which the second is the wider.
+--     same-frees     K, the number of free positions, is the same
+--     same-code      the codewords are the same, in the same order, with any r
+--     same-check     the check says of it, with any r, what the old check says of the old sheet
 use mathlib.Core.Path.{_≡_, refl, sym, ap, ap₂, _∙_}
 use Prim.Native.Nat.{ℕ, zero, suc, _*_, _^_, _≤_}
 use native.Mathlib.Omega.{arith}
 use mathlib.Core.Bool.{Bool, true, false, _&&_, not}
 use mathlib.Core.List.{List, [], _∷_, _++_, map}
-use lib.ListN.{length, replicate}
-use lib.Dec.{eqb, ltb}
+use lib.ListN.{length}
 use borrow.Author.Tests.{le-ltb, eq-eqb}
-use Rattle.bits.specs.Vectors.{_⊕_, pick, tab, filter, keep, odd, allBits}
-use Rattle.bits.proofs.Tests.{length-tab}
-use Rattle.meaning.specs.Limits.{largestN, recordBytes, leads}
+use Rattle.bits.specs.Vectors.{_⊕_, tab, filter, keep, odd, allBits}
+use Rattle.meaning.specs.Limits.{Layout, leads}
 use Rattle.meaning.specs.Transform.{polar}
-use Rattle.meaning.specs.Sheet.{Rule, free, frozen, rules, frees}
+use Rattle.meaning.specs.Sheet.{Rule, free, frozen, ruleIn, rulesIn, badIn, frees}
 use Rattle.meaning.specs.Check.{keepsRules, freeBits, divides, keeps}
 use Rattle.meaning.specs.Codewords.{codewords}
-use Rattle.meaning.specs.Answers.{badShape, badCheck, sheetRefusals, checking}
-use Rattle.meaning.specs.declared.Answer.{Answer}
-use Rattle.meaning.specs.declared.Answer.the-variants.{Done, BadRecord, HoldsNothing, BadCheck}
-use Rattle.sheet_convert.specs.Old.{oldLargestN, oldBadRecord, oldRuleAt, wideAt, widened}
-use Rattle.sheet_convert.proofs.Widening.{grown, grownRule, new-rules, new-bad}
+use Rattle.meaning.specs.Answers.{badShapeIn, checkingIn}
+use Rattle.sheet_convert.specs.Conversion.{widened}
+use Rattle.sheet_convert.proofs.Widening.{Wider, grown, grownRule, more, new-long, new-rules, new-bad}
 
--- ---- rules
+-- ---- rules with grown masks
 
-odd-grown : (m : List Bool) (k : ℕ) (u : List Bool) → odd (m ++ replicate k false) u ≡ odd m u
+odd-grown : (m : List Bool) (k : ℕ) (u : List Bool) → odd (grown k m) u ≡ odd m u
 odd-grown [] zero u = refl
 odd-grown [] (suc k) [] = refl
 odd-grown [] (suc k) (b ∷ u) = odd-grown [] k u
 odd-grown (a ∷ m) k [] = refl
 odd-grown (a ∷ m) k (b ∷ u) = ap (λ (x : Bool). (a && b) ⊕ x) (odd-grown m k u)
 
-keeps-grown : (ks : List Rule) (u v : List Bool) → keepsRules (map grownRule ks) u v ≡ keepsRules ks u v
-keeps-grown [] u v = refl
-keeps-grown (k ∷ ks) u [] = refl
-keeps-grown (free ∷ ks) u (b ∷ v) = keeps-grown ks u v
-keeps-grown (frozen c m ∷ ks) u (b ∷ v) = ap₂ (λ (x y : Bool). not (b ⊕ (c ⊕ x)) && y) (odd-grown m 384 u) (keeps-grown ks u v)
+module _ (k : ℕ) where
+  keeps-grown : (ks : List Rule) (u v : List Bool) → keepsRules (map (grownRule k) ks) u v ≡ keepsRules ks u v
+  keeps-grown [] u v = refl
+  keeps-grown (x ∷ ks) u [] = refl
+  keeps-grown (free ∷ ks) u (b ∷ v) = keeps-grown ks u v
+  keeps-grown (frozen c m ∷ ks) u (b ∷ v) = ap₂ (λ (x y : Bool). not (b ⊕ (c ⊕ x)) && y) (odd-grown m k u) (keeps-grown ks u v)
 
-free-grown : (ks : List Rule) (v : List Bool) → freeBits (map grownRule ks) v ≡ freeBits ks v
-free-grown [] v = refl
-free-grown (k ∷ ks) [] = refl
-free-grown (free ∷ ks) (b ∷ v) = ap {B = List Bool} (λ t. b ∷ t) (free-grown ks v)
-free-grown (frozen c m ∷ ks) (b ∷ v) = free-grown ks v
+  free-grown : (ks : List Rule) (v : List Bool) → freeBits (map (grownRule k) ks) v ≡ freeBits ks v
+  free-grown [] v = refl
+  free-grown (x ∷ ks) [] = refl
+  free-grown (free ∷ ks) (b ∷ v) = ap {B = List Bool} (λ t. b ∷ t) (free-grown ks v)
+  free-grown (frozen c m ∷ ks) (b ∷ v) = free-grown ks v
 
-frees-grown : (ks : List Rule) → frees (map grownRule ks) ≡ frees ks
-frees-grown [] = refl
-frees-grown (free ∷ ks) = ap suc (frees-grown ks)
-frees-grown (frozen c m ∷ ks) = frees-grown ks
+  frees-grown : (ks : List Rule) → frees (map (grownRule k) ks) ≡ frees ks
+  frees-grown [] = refl
+  frees-grown (free ∷ ks) = ap suc (frees-grown ks)
+  frees-grown (frozen c m ∷ ks) = frees-grown ks
 
-pub same-keeps : (ks : List Rule) (r : ℕ) (u : List Bool) → keeps (map grownRule ks) r u ≡ keeps ks r u
-unfolding keeps
-same-keeps ks r u = ap₂ (λ (x : Bool) (f : List Bool). x && divides r (leads r ++ f)) (keeps-grown ks u u) (free-grown ks u)
+  keeps-same : (ks : List Rule) (r : ℕ) (u : List Bool) → keeps (map (grownRule k) ks) r u ≡ keeps ks r u
+  unfolding keeps
+  keeps-same ks r u = ap₂ (λ (x : Bool) (f : List Bool). x && divides r (leads r ++ f)) (keeps-grown ks u u) (free-grown ks u)
+
+  map-tab : (n : ℕ) (f : ℕ → Rule) → tab n (λ (i : ℕ). grownRule k (f i)) ≡ map (grownRule k) (tab n f)
+  map-tab zero f = refl
+  map-tab (suc n) f = ap {B = List Rule} (λ t. grownRule k (f 0) ∷ t) (map-tab n (λ (i : ℕ). f (suc i)))
 
 filter-same : {A : Type 0} (p q : A → Bool) → ((a : A) → p a ≡ q a) → (l : List A) → filter p l ≡ filter q l
 filter-same p q h [] = refl
 filter-same {A} p q h (a ∷ l) = ap₂ {C = List A} (λ b t. keep b a t) (h a) (filter-same p q h l)
 
-map-tab : (n : ℕ) (f : ℕ → Rule) → tab n (λ (i : ℕ). grownRule (f i)) ≡ map grownRule (tab n f)
-map-tab zero f = refl
-map-tab (suc n) f = ap {B = List Rule} (λ t. grownRule (f 0) ∷ t) (map-tab n (λ (i : ℕ). f (suc i)))
-
 -- ---- the sheet
 
-module _ (n : ℕ) (old : List ℕ) (small : n ≤ oldLargestN) where
-  abbrev new : List ℕ
-  new = widened old (2 ^ n * recordBytes)
-
-  -- the old sheet's rules
+module _ {L M : Layout} (W : Wider L M) (n : ℕ) (s : List ℕ) where
   abbrev ks : List Rule
-  ks = tab (2 ^ n) (oldRuleAt old)
+  ks = rulesIn L n s
 
-  all-grown : rules n new ≡ map grownRule ks
-  all-grown = new-rules n old small ∙ map-tab (2 ^ n) (oldRuleAt old)
+  grown-rules : rulesIn M n (widened L M n s) ≡ map (grownRule (more L M)) ks
+  unfolding rulesIn
+  grown-rules = new-rules W n s ∙ map-tab (more L M) (2 ^ n) (ruleIn L s)
 
-  pub same-frees : frees (rules n new) ≡ frees ks
-  same-frees = ap frees all-grown ∙ frees-grown ks
+  pub same-frees : frees (rulesIn M n (widened L M n s)) ≡ frees (rulesIn L n s)
+  same-frees = ap frees grown-rules ∙ frees-grown (more L M) ks
 
-  pub same-code : (r : ℕ) → codewords n (rules n new) r ≡ codewords n ks r
+  pub same-code : (r : ℕ) → codewords n (rulesIn M n (widened L M n s)) r ≡ codewords n (rulesIn L n s) r
   unfolding codewords
-  same-code r = ap (map (polar n)) (ap (λ (k : List Rule). filter (keeps k r) (allBits (2 ^ n))) all-grown ∙ filter-same (keeps (map grownRule ks) r) (keeps ks r) (same-keeps ks r) (allBits (2 ^ n)))
+  same-code r =
+      ap (map (polar n))
+      (ap (λ (k : List Rule). filter (keeps k r) (allBits (2 ^ n))) grown-rules
+      ∙ filter-same (keeps (map (grownRule (more L M)) ks) r) (keeps ks r) (keeps-same (more L M) ks r) (allBits (2 ^ n)))
 
-  long : length new ≡ 2 ^ n * recordBytes
-  unfolding widened
-  long = length-tab (2 ^ n * recordBytes) (wideAt old)
+  module _ (small : n ≤ L .largest) (long : length s ≡ 2 ^ n * L .bytes) where
+    few : n ≤ M .largest
+    few = omega arith
 
-  few : n ≤ largestN
-  unfolding largestN oldLargestN
-  few = omega (arith, small)
-
-  pub same-check : (r : ℕ) → checking n new r
-      ≡ pick (ltb (oldBadRecord n old) (2 ^ n)) (BadRecord (oldBadRecord n old)) (pick (eqb (frees ks) 0) HoldsNothing (pick (badCheck r (frees ks)) BadCheck Done))
-  unfolding checking sheetRefusals badShape
-  same-check r = rw (le-ltb largestN n few, eq-eqb (length new) (2 ^ n * recordBytes) long, new-bad n old small, same-frees) refl
+    pub same-check : (r : ℕ) → checkingIn M n (widened L M n s) r ≡ checkingIn L n s r
+    unfolding checkingIn
+    same-check r =
+        rw (
+          le-ltb (M .largest) n few,
+          eq-eqb (length (widened L M n s)) (2 ^ n * M .bytes) (new-long W n s),
+          new-bad W n s small,
+          same-frees,
+          le-ltb (L .largest) n small,
+          eq-eqb (length s) (2 ^ n * L .bytes) long,
+        )

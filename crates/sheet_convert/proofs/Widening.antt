@@ -1,117 +1,140 @@
--- The records of a converted sheet say what the old ones said.
+-- The records of a widened sheet say what those of the sheet said.
+--     Wider L M         M has room for the records of L, and L for the positions of its sheets; wider, today's and the old one
 --     new-byte          byte k of a new record: the old record's, or 0 behind it
---     grown, new-mask   the mask of an old record, with no more names
---     new-fine          a new record is fine where the old one is
---     new-rule, new-rules     the rules are the same, their masks grown
+--     grown, new-mask   the mask of an old record, and no more names
+--     new-fine          a new record breaks no rule where the old one breaks none
+--     new-rules         the rules are the same, their masks grown
 --     new-bad           the first bad record is the same
-use mathlib.Core.Path.{_≡_, refl, sym, ap, ap₂, _∙_}
+use mathlib.Core.Path.{_≡_, refl, ap, ap₂, _∙_}
 use Prim.Native.Nat.{ℕ, zero, suc, _+_, _*_, _-_, _/_, _%_, _^_, _≤_, _<_}
 use native.Mathlib.Omega.{arith}
-use native.Mathlib.Nat.{mul-le-mul-right}
-use mathlib.Core.Bool.{Bool, true, false, _&&_, not}
+use native.Mathlib.Nat.{mul-add-div-right, mul-add-mod-self-right, mod-eq-of-lt, div-eq-of-lt, add-zero}
+use mathlib.Core.Bool.{Bool, true, false, not}
 use mathlib.Core.List.{List, [], _∷_, _++_, map}
-use lib.ListN.{length, drop, getD, replicate}
+use lib.ListN.{length, drop, replicate}
 use lib.Seq.{drop-append-le}
-use lib.Dec.{eqb, leb, ltb}
+use lib.Dec.{eqb, ltb}
 use lib.Pow.{pow-mono}
 use borrow.Author.Tests.{lt-ltb, le-ltb}
-use Rattle.bits.specs.Vectors.{pick, tab, all, firstPlace, zeros}
+use Rattle.bits.specs.Vectors.{pick, tab, firstPlace, zeros}
 use Rattle.bits.specs.Words.{bitAt}
 use Rattle.bits.proofs.Tests.{length-tab, tab-at, tab-below, tab-append}
+use Rattle.bits.proofs.RowLaws.{row-fit}
 use Rattle.bits.proofs.WordBits.{zero-bit}
-use Rattle.meaning.specs.Limits.{maskBytes, recordBytes}
-use Rattle.meaning.specs.Sheet.{Rule, free, frozen, byte, names, mask, ruleAt, rules, fine, badRecord}
-use Rattle.sheet_convert.specs.Old.{oldLargestN, oldMaskBytes, oldRecordBytes, oldByte, oldNames, oldMask, oldFine, oldBadRecord, oldRuleAt, wideAt, widened}
+use Rattle.meaning.specs.Limits.{Layout, layout, oldLayout, largestN, maskBytes, recordBytes, oldLargestN, oldMaskBytes, oldRecordBytes}
+use Rattle.meaning.specs.Sheet.{Rule, free, frozen, ruleBy, fineBy, byteIn, namesIn, maskIn, ruleIn, rulesIn, fineIn, badIn}
+use Rattle.sheet_convert.specs.Conversion.{wideAt, widened}
 
--- a mask with no more names
-abbrev pub grown : List Bool → List Bool
-grown m = m ++ replicate 384 false
+-- ---- two layouts
 
-abbrev pub grownRule : Rule → Rule
-grownRule free = free
-grownRule (frozen c m) = frozen c (grown m)
+pub record Wider (L M : Layout) : Type 0 where
+  pub head : L .bytes ≡ 4 + L .mask
+  pub head′ : M .bytes ≡ 4 + M .mask
+  pub wide : L .mask ≤ M .mask
+  pub high : L .largest ≤ M .largest
+  pub room : 2 ^ L .largest ≤ 8 * L .mask
+
+pub wider : Wider oldLayout layout
+unfolding largestN maskBytes recordBytes oldLargestN oldMaskBytes oldRecordBytes
+wider = record { head = refl; head′ = refl; wide = omega arith; high = omega arith; room = omega arith }
+
+-- the positions that only the masks of M have
+abbrev pub more : Layout → Layout → ℕ
+more L M = 8 * M .mask - 8 * L .mask
+
+-- ---- a mask with no more names
+
+abbrev pub grown : ℕ → List Bool → List Bool
+grown k m = m ++ replicate k false
+
+abbrev pub grownRule : ℕ → Rule → Rule
+grownRule k free = free
+grownRule k (frozen c m) = frozen c (grown k m)
 
 none-tab : (n : ℕ) (f : ℕ → Bool) → ((i : ℕ) → i < n → f i ≡ false) → tab n f ≡ replicate n false
 none-tab zero f h = refl
 none-tab (suc n) f h = ap₂ {C = List Bool} _∷_ (h zero (omega arith)) (none-tab n (λ (i : ℕ). f (suc i)) (λ i l. h (suc i) (omega arith)))
 
-zeros-grown : (m : List Bool) (k : ℕ) → zeros (m ++ replicate k false) ≡ zeros m
+zeros-grown : (m : List Bool) (k : ℕ) → zeros (grown k m) ≡ zeros m
 zeros-grown [] zero = refl
 zeros-grown [] (suc k) = zeros-grown [] k
 zeros-grown (true ∷ m) k = refl
 zeros-grown (false ∷ m) k = zeros-grown m k
 
-module _ (n : ℕ) (old : List ℕ) (small : n ≤ oldLargestN) where
+-- ---- the records
+
+module _ {L M : Layout} (W : Wider L M) (n : ℕ) (s : List ℕ) where
   abbrev new : List ℕ
-  new = widened old (2 ^ n * recordBytes)
+  new = widened L M n s
+
+  pub new-long : length new ≡ 2 ^ n * M .bytes
+  unfolding widened
+  new-long = length-tab (2 ^ n * M .bytes) (wideAt L M s)
 
   module _ (i : ℕ) (h : i < 2 ^ n) where
-    within : (k : ℕ) → k < recordBytes → i * recordBytes + k < 2 ^ n * recordBytes
-    within k l = let m : suc i * recordBytes ≤ 2 ^ n * recordBytes = mul-le-mul-right recordBytes h in omega arith
+    -- where byte k of a new record stands
+    module _ (k : ℕ) (l : k < M .bytes) where
+      byte-of : (i * M .bytes + k) % M .bytes ≡ k
+      byte-of = mul-add-mod-self-right i (M .bytes) k ∙ mod-eq-of-lt l
 
-    at-old : (k : ℕ) → k < oldRecordBytes → wideAt old (i * recordBytes + k) ≡ oldByte old i k
-    unfolding wideAt recordBytes maskBytes oldRecordBytes oldMaskBytes
-    at-old k l =
-        let m : (i * 68 + k) % 68 ≡ k = omega arith in
-        let d : (i * 68 + k) / 68 ≡ i = omega arith in
-        rw (m, d, lt-ltb k 20 l) refl
+      record-of : (i * M .bytes + k) / M .bytes ≡ i
+      record-of = mul-add-div-right (omega arith) i k ∙ ap (λ (x : ℕ). i + x) (div-eq-of-lt l) ∙ add-zero i
 
-    at-new : (k : ℕ) → oldRecordBytes ≤ k → k < recordBytes → wideAt old (i * recordBytes + k) ≡ 0
-    unfolding wideAt recordBytes maskBytes oldRecordBytes oldMaskBytes
-    at-new k l b =
-        let m : (i * 68 + k) % 68 ≡ k = omega arith in
-        rw (m, le-ltb k 20 l) refl
+      pub new-byte : byteIn M new i k ≡ pick (ltb k (L .bytes)) (byteIn L s i k) 0
+      unfolding widened wideAt
+      new-byte = tab-at (2 ^ n * M .bytes) (wideAt L M s) (i * M .bytes + k) 0 (omega (arith, row-fit i (2 ^ n) (M .bytes) h)) ∙ rw (byte-of, record-of)
 
-    pub new-byte : (k : ℕ) → k < recordBytes → byte new i k ≡ wideAt old (i * recordBytes + k)
-    unfolding widened
-    new-byte k l = tab-at (2 ^ n * recordBytes) (wideAt old) (i * recordBytes + k) 0 (within k l)
+    same-byte : (k : ℕ) → k < L .bytes → byteIn M new i k ≡ byteIn L s i k
+    same-byte k l = new-byte k (omega arith) ∙ rw (lt-ltb k (L .bytes) l)
 
-    head : (k : ℕ) → k < 4 → byte new i k ≡ oldByte old i k
-    unfolding recordBytes maskBytes oldRecordBytes oldMaskBytes
-    head k l = new-byte k (omega arith) ∙ at-old k (omega arith)
+    no-byte : (k : ℕ) → L .bytes ≤ k → k < M .bytes → byteIn M new i k ≡ 0
+    no-byte k l b = new-byte k b ∙ rw (le-ltb k (L .bytes) l)
 
-    few-names : (j : ℕ) → j < 8 * oldMaskBytes → names new i j ≡ oldNames old i j
-    unfolding names oldNames oldMaskBytes oldRecordBytes recordBytes maskBytes
-    few-names j l = ap (λ (b : ℕ). eqb (bitAt b (j % 8)) 1) (new-byte (4 + j / 8) (omega arith) ∙ at-old (4 + j / 8) (omega arith))
+    same-names : (j : ℕ) → j < 8 * L .mask → namesIn M new i j ≡ namesIn L s i j
+    unfolding namesIn
+    same-names j l = ap (λ (b : ℕ). eqb (bitAt b (j % 8)) 1) (same-byte (4 + j / 8) (omega arith))
 
-    no-names : (j : ℕ) → j < 384 → names new i (8 * oldMaskBytes + j) ≡ false
-    unfolding names oldMaskBytes oldRecordBytes recordBytes maskBytes
-    no-names j l =
-        ap (λ (b : ℕ). eqb (bitAt b ((128 + j) % 8)) 1) (new-byte (4 + (128 + j) / 8) (omega arith) ∙ at-new (4 + (128 + j) / 8) (omega arith) (omega arith))
-        ∙ zero-bit ((128 + j) % 8)
+    no-names : (j : ℕ) → 8 * L .mask ≤ j → j < 8 * M .mask → namesIn M new i j ≡ false
+    unfolding namesIn
+    no-names j l b = ap (λ (x : ℕ). eqb (bitAt x (j % 8)) 1) (no-byte (4 + j / 8) (omega arith) (omega arith)) ∙ zero-bit (j % 8)
 
-    pub new-mask : mask new i ≡ grown (oldMask old i)
-    unfolding mask oldMask maskBytes oldMaskBytes
+    pub new-mask : maskIn M new i ≡ grown (more L M) (maskIn L s i)
+    unfolding maskIn
     new-mask =
-        tab-append 128 384 (names new i)
-        ∙ ap₂ {C = List Bool} _++_ (tab-below 128 (names new i) (oldNames old i) (λ j l. few-names j l)) (none-tab 384 (λ (j : ℕ). names new i (128 + j)) (λ j l. no-names j l))
+        ap (λ (k : ℕ). tab k (namesIn M new i)) (let e : 8 * M .mask ≡ 8 * L .mask + more L M = omega arith in e)
+        ∙ tab-append (8 * L .mask) (more L M) (namesIn M new i)
+        ∙ ap₂ {C = List Bool} _++_ (tab-below (8 * L .mask) (namesIn M new i) (namesIn L s i) (λ j l. same-names j l)) (none-tab (more L M) (λ (j : ℕ). namesIn M new i (8 * L .mask + j)) (λ j l. no-names (8 * L .mask + j) (omega arith) (omega arith)))
 
-    low : i ≤ length (oldMask old i)
-    unfolding oldMask oldMaskBytes oldLargestN
-    low = omega (arith, length-tab 128 (oldNames old i), h, pow-mono small)
+    head-byte : (k : ℕ) → k < 4 → byteIn M new i k ≡ byteIn L s i k
+    head-byte k l = same-byte k (omega arith)
 
-    late : zeros (drop i (mask new i)) ≡ zeros (drop i (oldMask old i))
-    late = ap (λ (m : List Bool). zeros (drop i m)) new-mask ∙ ap zeros (drop-append-le i (oldMask old i) (replicate 384 false) low) ∙ zeros-grown (drop i (oldMask old i)) 384
-
-    none : zeros (mask new i) ≡ zeros (oldMask old i)
-    none = ap zeros new-mask ∙ zeros-grown (oldMask old i) 384
-
-    pub new-fine : fine new i ≡ oldFine old i
-    unfolding fine oldFine
-    new-fine = rw (head 0 (omega arith), head 1 (omega arith), head 2 (omega arith), head 3 (omega arith), late, none) refl
-
-    pub new-rule : ruleAt new i ≡ grownRule (oldRuleAt old i)
-    unfolding ruleAt oldRuleAt
-    new-rule = rw (head 0 (omega arith), head 1 (omega arith), new-mask) (go (eqb (oldByte old i 0) 0))
+    pub new-rule : ruleIn M new i ≡ grownRule (more L M) (ruleIn L s i)
+    unfolding ruleIn
+    new-rule = rw (head-byte 0 (omega arith), head-byte 1 (omega arith), new-mask) (go (eqb (byteIn L s i 0) 0))
       where
-        go : (b : Bool) → pick b free (frozen (eqb (oldByte old i 1) 1) (grown (oldMask old i))) ≡ grownRule (pick b free (frozen (eqb (oldByte old i 1) 1) (oldMask old i)))
+        go : (b : Bool) → pick b free (frozen (eqb (byteIn L s i 1) 1) (grown (more L M) (maskIn L s i))) ≡ grownRule (more L M) (pick b free (frozen (eqb (byteIn L s i 1) 1) (maskIn L s i)))
         go true = refl
         go false = refl
 
-  pub new-rules : rules n new ≡ tab (2 ^ n) (λ (i : ℕ). grownRule (oldRuleAt old i))
-  unfolding rules
-  new-rules = tab-below (2 ^ n) (ruleAt new) (λ (i : ℕ). grownRule (oldRuleAt old i)) (λ i h. new-rule i h)
+    module _ (small : n ≤ L .largest) where
+      low : i ≤ length (maskIn L s i)
+      unfolding maskIn
+      low = omega (arith, length-tab (8 * L .mask) (namesIn L s i), h, pow-mono small)
 
-  pub new-bad : badRecord n new ≡ oldBadRecord n old
-  unfolding badRecord oldBadRecord
-  new-bad = ap (firstPlace not) (tab-below (2 ^ n) (fine new) (oldFine old) (λ i h. new-fine i h))
+      late : zeros (drop i (maskIn M new i)) ≡ zeros (drop i (maskIn L s i))
+      late = ap (λ (m : List Bool). zeros (drop i m)) new-mask ∙ ap zeros (drop-append-le i (maskIn L s i) (replicate (more L M) false) low) ∙ zeros-grown (drop i (maskIn L s i)) (more L M)
+
+      none : zeros (maskIn M new i) ≡ zeros (maskIn L s i)
+      none = ap zeros new-mask ∙ zeros-grown (maskIn L s i) (more L M)
+
+      pub new-fine : fineIn M new i ≡ fineIn L s i
+      unfolding fineIn
+      new-fine = rw (head-byte 0 (omega arith), head-byte 1 (omega arith), head-byte 2 (omega arith), head-byte 3 (omega arith), late, none)
+
+  pub new-rules : rulesIn M n new ≡ tab (2 ^ n) (λ (i : ℕ). grownRule (more L M) (ruleIn L s i))
+  unfolding rulesIn
+  new-rules = tab-below (2 ^ n) (ruleIn M new) (λ (i : ℕ). grownRule (more L M) (ruleIn L s i)) (λ i h. new-rule i h)
+
+  pub new-bad : n ≤ L .largest → badIn M n new ≡ badIn L n s
+  unfolding badIn
+  new-bad small = ap (firstPlace not) (tab-below (2 ^ n) (fineIn M new) (fineIn L s) (λ i h. new-fine i h small))

@@ -1,2 +1,2 @@
--- Old: the sheets before W-206, and what converting one promises.
-pub mod Old
+-- Conversion: a sheet in a wider layout, and what converting one promises.
+pub mod Conversion

@@ -1,21 +1,18 @@
-// Old sheets to new ones: N records of 20 bytes, n up to 7, become N records of 68, each with zeros behind it.
+// Old sheets to new ones. Before W-206 a sheet was N records of 20 bytes, N = 1, 2, 4, .. 128; today it is N records of 68. A
+// record is converted by putting zeros behind it, and says the same rule. Every public function here is total.
 ghost use mathlib.Core.Path.{_≡_};
 ghost use Prim.Native.Nat.{_*_, _/_, _^_, _≤_, _<_};
 ghost use lib.ListN.{length};
-ghost use Rattle.meaning.specs.Limits.{recordBytes};
+ghost use Rattle.bits.specs.Vectors.{tab};
+ghost use Rattle.meaning.specs.Limits.{layout, oldLayout, recordBytes, oldLargestN, oldRecordBytes};
 ghost use Rattle.meaning.specs.Answers.{leaving};
-ghost use Rattle.sheet_convert.specs.Old.{oldLargestN, oldRecordBytes, wideAt, widened, converting, New};
+ghost use Rattle.meaning.specs.Stream.{sizeIn};
+ghost use Rattle.sheet_convert.specs.Conversion.{wideAt, converting, Old, New};
 use meaning::Answer;
 use meaning::limits;
 
-// N = 2 to the n, n from 0 to this, in an old sheet.
-const OLD_N: usize = 7;
-
-// Bytes of a record of an old sheet.
-const OLD_RECORD: usize = 20;
-
 // Bytes of the longest old sheet, converted.
-const LONGEST: usize = 128 * limits::RECORD;
+pub const LONGEST: usize = limits::OLD_POSITIONS * limits::RECORD;
 
 // N, 2 to the n.
 fn size_of(n: usize) -> usize
@@ -25,21 +22,36 @@ fn size_of(n: usize) -> usize
     1 << n
 }
 
-// Byte p of the new sheet.
+// The n of an old sheet of N = 2 to the n records, from its length; 8 where no n up to 7 has such a sheet.
+pub fn old_size(old: &[u8]) -> usize
+    ensures { λ r. ⌜ r ≡ sizeIn oldLayout (now (old .entry)) ⌝ }
+{
+    let mut n = 0;
+    while n <= limits::OLD_LARGEST_N {
+        if old.len() == size_of(n) * limits::OLD_RECORD {
+            return n;
+        }
+        n += 1;
+    }
+    n
+}
+
+// Byte p of the new sheet: the old record's byte, or 0 behind it.
 fn byte_at(old: &[u8], p: usize) -> u8
     requires { ⌜ p / recordBytes < length (now old) / oldRecordBytes ⌝ }
-    ensures { λ r. ⌜ r ≡ wideAt (now (old .entry)) p ⌝ }
+    ensures { λ r. ⌜ r ≡ wideAt oldLayout layout (now (old .entry)) p ⌝ }
 {
-    if p % limits::RECORD < OLD_RECORD {
-        return old[p / limits::RECORD * OLD_RECORD + p % limits::RECORD];
+    let k = p % limits::RECORD;
+    if limits::OLD_RECORD <= k {
+        return 0;
     }
-    0
+    old[p / limits::RECORD * limits::OLD_RECORD + k]
 }
 
 // Fills `sheet` with the bytes of the new sheet.
 fn widen(old: &[u8], sheet: &mut [u8])
     requires { ⌜ length (now sheet) ≤ length (now old) / oldRecordBytes * recordBytes ⌝ }
-    ensures { λ _. ⌜ now (sheet .exit) ≡ widened (now (old .entry)) (length (now (sheet .entry))) ⌝ }
+    ensures { λ _. ⌜ now (sheet .exit) ≡ tab (length (now (sheet .entry))) (wideAt oldLayout layout (now (old .entry))) ⌝ }
 {
     let mut p = 0;
     while p < sheet.len() {
@@ -48,8 +60,8 @@ fn widen(old: &[u8], sheet: &mut [u8])
     }
 }
 
-// Answers for a new sheet: a bad record, too little room, or its bytes.
-fn answer(n: usize, old: &[u8], sheet: &[u8], out: &mut [u8]) -> Answer
+// Answers for an old sheet whose bytes, converted, are `sheet`: a bad record, too little room, or those bytes.
+fn hand_out(n: usize, old: &[u8], sheet: &[u8], out: &mut [u8]) -> Answer
     requires { ⌜ New n (now old) (now sheet) ⌝ }
     ensures { λ a. ⌜ leaving (now (out .exit)) a ≡ converting n (now (old .entry)) (now (out .entry)) ⌝ }
 {
@@ -65,27 +77,31 @@ fn answer(n: usize, old: &[u8], sheet: &[u8], out: &mut [u8]) -> Answer
     Answer::Done
 }
 
-// `convert`, with room for the longest sheet.
+// `convert` of an old sheet of N records, with room to convert it in.
 fn convert_in(n: usize, old: &[u8], sheet: &mut [u8], out: &mut [u8]) -> Answer
-    requires { ⌜ (n ≤ oldLargestN) × (length (now old) ≡ 2 ^ n * oldRecordBytes) × (length (now sheet) ≡ 2 ^ n * recordBytes) ⌝ }
+    requires { ⌜ Old n (now old) × (length (now sheet) ≡ 2 ^ n * recordBytes) ⌝ }
     ensures { λ a. ⌜ leaving (now (out .exit)) a ≡ converting n (now (old .entry)) (now (out .entry)) ⌝ }
 {
     widen(old, sheet);
-    answer(n, old, sheet, out)
+    hand_out(n, old, sheet, out)
 }
 
-// Converts an old sheet of N = 2 to the n records of 20 bytes: each becomes a record of 68, the old bytes and then zeros, and
-// says the same rule. Writes 68N bytes and answers Done (0); later bytes are as found.
-// Refuses (11: n above 7, or not 20N bytes; 12: the place of the first record that breaks any rule; 16: an output under 68N
-// bytes); the first that applies. A refusal leaves the output as found.
+// Converts an old sheet. `old` is to be N = 2 to the n records of 20 bytes, n from 0 to 7. Answers Done (0) and writes the new
+// sheet, N records of 68 bytes, to the front of `out`: of each record its 20 bytes, and 48 zeros. Bytes of `out` past it stay.
+// The new sheet has the same codewords in the same order with every check length, and the check says of it what it said of
+// the old one: a sheet with no free position is converted, and refused (19) when it is used.
+// Refuses, the first that applies, and leaves `out` as found:
+//     BadShape (11)       n is above 7, or `old` is not 20N bytes long
+//     BadRecord (12)      the place of the first record that breaks any rule
+//     ShortOutput (16)    `out` is under 68N bytes long; LONGEST is enough for any
 pub fn convert(n: usize, old: &[u8], out: &mut [u8]) -> Answer
     ensures { λ a. ⌜ leaving (now (out .exit)) a ≡ converting n (now (old .entry)) (now (out .entry)) ⌝ }
 {
-    if OLD_N < n {
+    if limits::OLD_LARGEST_N < n {
         return Answer::BadShape;
     }
     let size = size_of(n);
-    if old.len() != size * OLD_RECORD {
+    if old.len() != size * limits::OLD_RECORD {
         return Answer::BadShape;
     }
     let mut sheet = [0u8; LONGEST];

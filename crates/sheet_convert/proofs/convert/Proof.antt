@@ -3,9 +3,9 @@ use Prim.Native.Nat.{ℕ, _*_, _^_, _≤_}
 use native.Mathlib.Omega.{arith}
 use lib.ListN.{length-take}
 use borrow.Author.Needs.{needs}
-use Rattle.meaning.specs.Limits.{recordBytes, maskBytes}
-use Rattle.sheet_convert.specs.Old.{oldLargestN, oldRecordBytes, oldMaskBytes}
-use Rattle.sheet_convert.proofs.Converting.{too-large, not-long, size-low}
+use Rattle.meaning.specs.Limits.{recordBytes, maskBytes, oldLargestN, oldRecordBytes, oldMaskBytes}
+use Rattle.sheet_convert.proofs.Converting.{too-large, not-long}
+use Rattle.sheet_convert.proofs.Sizing.{size-fits}
 use Rattle.sheet_convert.proofs.convert.Statement.{statement}
 use Rattle.sheet_convert.proofs.convert.Tie as tie
 
@@ -18,16 +18,16 @@ unfolding oldLargestN
 size-of-requires c κs = c .if1 .left
 
 mul-if2 : tie.Need-mul-if2
-unfolding oldLargestN
-mul-if2 c = omega (arith, c .size-of .ensures, size-low _ (c .before .if1 .left))
+unfolding oldLargestN oldMaskBytes
+mul-if2 c = omega (arith, c .size-of .ensures, size-fits _ (c .before .if1 .left))
 
 returns-2 : tie.Need-returns-2
 unfolding oldLargestN oldRecordBytes oldMaskBytes
 returns-2 c = not-long _ _ _ _ (c .before .before .if1 .left) (c .before .size-of .ensures) (c .if2 .taken)
 
 mul-convert-in : tie.Need-mul-convert-in
-unfolding oldLargestN
-mul-convert-in c = omega (arith, c .before .size-of .ensures, size-low _ (c .before .before .if1 .left))
+unfolding oldLargestN oldMaskBytes
+mul-convert-in c = omega (arith, c .before .size-of .ensures, size-fits _ (c .before .before .if1 .left))
 
 sub-convert-in : tie.Need-sub-convert-in
 sub-convert-in c = search needs
@@ -36,14 +36,15 @@ part-sheet-start : tie.Need-part-sheet-start
 part-sheet-start c = search needs
 
 part-sheet-end : tie.Need-part-sheet-end
-unfolding oldLargestN
-part-sheet-end c = omega (arith, c .before .size-of .ensures, size-low _ (c .before .before .if1 .left))
+unfolding oldLargestN oldMaskBytes
+part-sheet-end c = omega (arith, c .before .size-of .ensures, size-fits _ (c .before .before .if1 .left))
 
 convert-in-requires : tie.Need-convert-in-requires
 unfolding oldLargestN oldRecordBytes oldMaskBytes recordBytes maskBytes
 convert-in-requires c κs =
     let e = c .before .before .before .size-of .ensures in
-    (c .before .before .before .before .if1 .left, c .before .before .if2 .left ∙ ap (λ (k : ℕ). k * 20) e, simp length-take (omega (arith, e, size-low _ (c .before .before .before .before .if1 .left))))
+    let h = c .before .before .before .before .if1 .left in
+    (record { small = h; long = c .before .before .if2 .left ∙ ap (λ (k : ℕ). k * oldRecordBytes) e }, simp length-take (omega (arith, e, size-fits _ h)))
 
 same-length : tie.Need-same-length
 same-length c = search needs

@@ -1,6 +1,6 @@
 use native.Mathlib.Omega.{arith}
 use Rattle.bits.proofs.Words.{shl-one}
-use Rattle.sheet_convert.specs.Old.{oldLargestN}
+use Rattle.meaning.specs.Limits.{oldLargestN}
 use Rattle.sheet_convert.proofs.size_of.Statement.{statement}
 use Rattle.sheet_convert.proofs.size_of.Tie as tie
 

@@ -1,14 +1,14 @@
 use Prim.Native.Nat.{_-_}
 use native.Mathlib.Omega.{arith}
 use lib.ListN.{length}
-use Rattle.meaning.specs.Limits.{recordBytes, maskBytes}
-use Rattle.sheet_convert.specs.Old.{oldRecordBytes, oldMaskBytes, wideAt, widened}
+use Rattle.meaning.specs.Limits.{layout, oldLayout, recordBytes, maskBytes, oldRecordBytes, oldMaskBytes}
+use Rattle.sheet_convert.specs.Conversion.{wideAt}
 use Rattle.sheet_convert.proofs.Filling.{Filling, filling-none, filling-next, filling-all}
 use Rattle.sheet_convert.proofs.widen.Statement.{statement}
 use Rattle.sheet_convert.proofs.widen.Tie as tie
 
 abbrev Inv-loop : tie.InvT-loop
-Inv-loop old sheet₀ p₀ sheet p = Filling (wideAt old) (length sheet₀) sheet p
+Inv-loop old sheet₀ p₀ sheet p = Filling (wideAt oldLayout layout old) (length sheet₀) sheet p
 
 abbrev μ-loop : tie.MeasureT-loop
 μ-loop old sheet₀ p₀ sheet p = length sheet₀ - p
@@ -36,7 +36,6 @@ same-length : tie.Need-same-length Inv-loop μ-loop
 same-length c = c .before .loop .inv .size
 
 returns : tie.Need-returns Inv-loop μ-loop
-unfolding widened
 returns c = let inv = c .before .loop .inv in let s = inv .size in filling-all inv (omega (arith, c .loop-test .left))
 
 pub widen-spec : {M : Type 1} → statement M

@@ -1,8 +1,8 @@
 use native.Mathlib.Omega.{arith}
 use borrow.Author.Needs.{needs}
 use Rattle.sheet_convert.proofs.Converting.{bad, short, converted}
-use Rattle.sheet_convert.proofs.answer.Statement.{statement}
-use Rattle.sheet_convert.proofs.answer.Tie as tie
+use Rattle.sheet_convert.proofs.hand_out.Statement.{statement}
+use Rattle.sheet_convert.proofs.hand_out.Tie as tie
 
 check-sheet-requires : tie.Need-check-sheet-requires
 check-sheet-requires c κs = search needs
@@ -28,8 +28,8 @@ same-length c = search needs
 returns-3 : tie.Need-returns-3
 returns-3 c = let A = c .before .before .before .before .before .before .before .before .before .before .before .args in converted (A .n) (A .old .now) (A .sheet .now) (A .out .now) (c .before .before .before .before .before .before .before .before .before .before .before .pre) _ (c .before .before .before .before .before .before .before .check-sheet .ensures) _ (c .before .before .before .before .before .before .numbers .ensures) (c .before .before .before .before .before .if1 .left) (c .before .before .before .before .if2 .left) _ (c .before .before .copy .ensures .1)
 
-pub answer-spec : {M : Type 1} → statement M
-answer-spec =
+pub hand-out-spec : {M : Type 1} → statement M
+hand-out-spec =
     tie.close
     (tie.spec
     check-sheet-requires
