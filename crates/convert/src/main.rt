@@ -40,18 +40,23 @@ fn refuse(old: &[u8], code: usize, place: usize) {
     }
 }
 
-// Converts a sheet and writes what it becomes, or says why not.
+// Writes the new sheet, or says that it cannot.
+fn write(s: &[u8]) {
+    if !io::write_all(STDOUT_FILENO, s) {
+        say(b"convert: cannot write, the new sheet is not whole\n");
+    }
+}
+
+// Converts a sheet, and writes what it becomes or says why not.
 fn turn(old: &[u8], out: &mut [u8]) {
     let n = sheet_convert::old_size(old);
     let a = sheet_convert::convert(n, old, out);
-    if !meaning::is_done(a) {
+    if meaning::is_done(a) {
+        let k = old.len() / limits::OLD_RECORD * limits::RECORD;
+        write(&out[0..k]);
+    } else {
         let v = meaning::numbers(a);
         refuse(old, v[0], v[1]);
-        return;
-    }
-    let k = old.len() / limits::OLD_RECORD * limits::RECORD;
-    if !io::write_all(STDOUT_FILENO, &out[0..k]) {
-        say(b"convert: cannot write, the sheet is not whole\n");
     }
 }
 

@@ -1,12 +1,13 @@
 -- What follows from the promise of `convert`: of any answer a, and bytes x of the output after the call.
 --     convert-determined     any two results that the promise allows are equal
 --     convert-refused        what is refused leaves the output as found
---     given, roomy           where it answers 0, an old sheet was given, and room for the new one
+--     given, roomy, new-fits     where it answers 0, an old sheet was given, and room for the new one
 --     Converted, convert-same     and the output starts with a sheet that is the same code
 --     convert-rest           and later bytes stay
 use mathlib.Core.Path.{_≡_, refl, sym, ap, _∙_}
-use Prim.Native.Nat.{ℕ, _*_, _^_, _≤_}
+use Prim.Native.Nat.{ℕ, _*_, _/_, _^_, _≤_}
 use native.Mathlib.Omega.{arith}
+use native.Mathlib.Nat.{div-eq-of-eq-mul-left}
 use mathlib.Core.Bool.{Bool, true, false, not}
 use mathlib.Core.List.{List, _++_}
 use lib.ListN.{length, take, drop}
@@ -54,10 +55,10 @@ module _ (n : ℕ) (old out x : List ℕ) (a : Answer) (p : leaving x a ≡ conv
   convert-refused h = ap (λ (t : Reply). t .bytes) p ∙ refused-untouched out (convertRefusals n old (length out)) _ h
 
   -- where it answers 0
-  module _ (d : a ≡ Done) where
+  module _ (d : isDone a ≡ true) where
     none : refuses (convertRefusals n old (length out)) ≡ false
     unfolding converting convertRefusals
-    none = done-none out (convertRefusals n old (length out)) _ refl (ap (λ (t : Reply). isDone (t .answer)) (sym p) ∙ ap isDone d)
+    none = done-none out (convertRefusals n old (length out)) _ refl (ap (λ (t : Reply). isDone (t .answer)) (sym p) ∙ d)
 
     -- an old sheet of N records was given
     pub given : Old n old
@@ -75,6 +76,10 @@ module _ (n : ℕ) (old out x : List ℕ) (a : Answer) (p : leaving x a ≡ conv
     roomy =
         let rest = or-false-r (badShapeIn oldLayout n old) _ none in
         ltb-false (length out) (2 ^ n * recordBytes) (or-false-l (ltb (length out) (2 ^ n * recordBytes)) _ (or-false-r (ltb (badIn oldLayout n old) (2 ^ n)) _ rest))
+
+    -- for as many records of today's size as were given
+    pub new-fits : length old / oldRecordBytes * recordBytes ≤ length out
+    new-fits = rw (div-eq-of-eq-mul-left {n = oldRecordBytes} {m = length old} {k = 2 ^ n} (omega (arith, wider .head)) (given .long)) roomy
 
     bytes : x ≡ widened oldLayout layout n old ++ drop (length (widened oldLayout layout n old)) out
     unfolding converting
