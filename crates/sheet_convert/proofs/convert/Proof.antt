@@ -11,11 +11,11 @@ use Rattle.sheet_convert.proofs.convert.Tie as tie
 
 returns : tie.Need-returns
 unfolding oldLargestN
-returns c = too-large _ _ _ (c .if1 .taken)
+returns c = too-large _ _ _ (omega arith)
 
 size-of-requires : tie.Need-size-of-requires
 unfolding oldLargestN
-size-of-requires c κs = c .if1 .left
+size-of-requires c κs = omega arith
 
 mul-if2 : tie.Need-mul-if2
 unfolding oldLargestN oldMaskBytes
@@ -23,7 +23,7 @@ mul-if2 c = omega (arith, c .size-of .ensures, size-fits _ (c .before .if1 .left
 
 returns-2 : tie.Need-returns-2
 unfolding oldLargestN oldRecordBytes oldMaskBytes
-returns-2 c = not-long _ _ _ _ (c .before .before .if1 .left) (c .before .size-of .ensures) (c .if2 .taken)
+returns-2 c = not-long _ _ _ _ (c .before .before .if1 .left) (c .before .size-of .ensures) (omega arith)
 
 mul-convert-in : tie.Need-mul-convert-in
 unfolding oldLargestN oldMaskBytes

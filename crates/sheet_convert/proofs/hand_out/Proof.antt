@@ -14,10 +14,16 @@ array-read-if1 : tie.Need-array-read-if1
 array-read-if1 c = search needs
 
 returns : tie.Need-returns
-returns c = let A = c .before .before .before .before .before .before .args in bad (A .n) (A .old .now) (A .sheet .now) (A .out .now) (c .before .before .before .before .before .before .pre) _ (c .before .before .check-sheet .ensures) _ (c .before .numbers .ensures) (c .if1 .taken)
+returns c =
+    let start = c .before .before .before .before .before .before in
+    let A = start .args in
+    bad (A .n) (A .old .now) (A .sheet .now) (A .out .now) (start .pre) _ (c .before .before .check-sheet .ensures) _ (c .before .numbers .ensures) (c .if1 .taken)
 
 returns-2 : tie.Need-returns-2
-returns-2 c = let A = c .before .before .before .before .before .before .before .args in short (A .n) (A .old .now) (A .sheet .now) (A .out .now) (c .before .before .before .before .before .before .before .pre) _ (c .before .before .before .check-sheet .ensures) _ (c .before .before .numbers .ensures) (c .before .if1 .left) (c .if2 .taken)
+returns-2 c =
+    let start = c .before .before .before .before .before .before .before in
+    let A = start .args in
+    short (A .n) (A .old .now) (A .sheet .now) (A .out .now) (start .pre) _ (c .before .before .before .check-sheet .ensures) _ (c .before .before .numbers .ensures) (c .before .if1 .left) (omega arith)
 
 copy-requires : tie.Need-copy-requires
 copy-requires c κs = search needs
@@ -26,7 +32,11 @@ same-length : tie.Need-same-length
 same-length c = search needs
 
 returns-3 : tie.Need-returns-3
-returns-3 c = let A = c .before .before .before .before .before .before .before .before .before .before .before .args in converted (A .n) (A .old .now) (A .sheet .now) (A .out .now) (c .before .before .before .before .before .before .before .before .before .before .before .pre) _ (c .before .before .before .before .before .before .before .check-sheet .ensures) _ (c .before .before .before .before .before .before .numbers .ensures) (c .before .before .before .before .before .if1 .left) (c .before .before .before .before .if2 .left) _ (c .before .before .copy .ensures .1)
+returns-3 c =
+    let asked = c .before .before .before .before in
+    let start = asked .before .before .before .before .before .before .before in
+    let A = start .args in
+    converted (A .n) (A .old .now) (A .sheet .now) (A .out .now) (start .pre) _ (asked .before .before .before .check-sheet .ensures) _ (asked .before .before .numbers .ensures) (asked .before .if1 .left) (omega (arith, asked .if2 .left)) _ (c .before .before .copy .ensures .1)
 
 pub hand-out-spec : {M : Type 1} → statement M
 hand-out-spec =
