@@ -3,7 +3,7 @@
 --     widened L M n s       the new sheet
 --     convertRefusals       the old 11 and 12, then 16
 --     converting            what the call answers and leaves in its buffer
---     Old, New              what the code has by then: an old sheet of N records, and its bytes converted
+--     Old, handing          the parts of the code: an old sheet of N records; a new sheet, handed out
 use mathlib.Core.Path.{_≡_}
 use Prim.Native.Nat.{ℕ, _*_, _/_, _%_, _^_, _≤_}
 use mathlib.Core.List.{List, [], _∷_}
@@ -11,7 +11,7 @@ use lib.ListN.{length}
 use lib.Dec.{ltb}
 use Rattle.bits.specs.Vectors.{pick, tab}
 use Rattle.meaning.specs.Limits.{Layout, layout, oldLayout, recordBytes, oldLargestN, oldRecordBytes}
-use Rattle.meaning.specs.Sheet.{byteIn, badIn}
+use Rattle.meaning.specs.Sheet.{badRecord, byteIn, badIn}
 use Rattle.meaning.specs.Answers.{Refusal, Reply, _⇒_, firstOf, badShapeIn, leaving, writing}
 use Rattle.meaning.specs.declared.Answer.the-variants.{Done, BadShape, BadRecord, ShortOutput}
 
@@ -38,12 +38,18 @@ convertRefusals n s room =
 unfoldable pub converting : ℕ → List ℕ → List ℕ → Reply
 converting n s out = firstOf (leaving out) (convertRefusals n s (length out)) (writing (widened oldLayout layout n s) out Done)
 
--- ---- what the code has by then
+-- ---- the parts of the code
 
+-- an old sheet of N records
 pub record Old (n : ℕ) (old : List ℕ) : Type 0 where
   pub small : n ≤ oldLargestN
   pub long : length old ≡ 2 ^ n * oldRecordBytes
 
-pub record New (n : ℕ) (old sheet : List ℕ) : Type 0 where
-  pub from : Old n old
-  pub is : sheet ≡ widened oldLayout layout n old
+-- a sheet of today, handed out: 12 and 16, or its bytes
+unfoldable pub handing : ℕ → List ℕ → List ℕ → Reply
+handing n sheet out =
+    firstOf (leaving out)
+    ((ltb (badRecord n sheet) (2 ^ n) ⇒ BadRecord (badRecord n sheet))
+    ∷ (ltb (length out) (length sheet) ⇒ ShortOutput)
+    ∷ [])
+    (writing sheet out Done)

@@ -1,13 +1,14 @@
 // Old sheets to new ones. Before W-206 a sheet was N records of 20 bytes, N = 1, 2, 4, .. 128; today it is N records of 68. A
 // record is converted by putting zeros behind it, and says the same rule. Every public function here is total.
 ghost use mathlib.Core.Path.{_≡_};
+ghost use mathlib.Core.Bool.{false};
 ghost use Prim.Native.Nat.{_*_, _/_, _^_, _≤_, _<_};
 ghost use lib.ListN.{length};
 ghost use Rattle.bits.specs.Vectors.{tab};
 ghost use Rattle.meaning.specs.Limits.{layout, oldLayout, recordBytes, oldLargestN, oldRecordBytes};
-ghost use Rattle.meaning.specs.Answers.{leaving};
+ghost use Rattle.meaning.specs.Answers.{badShape, leaving};
 ghost use Rattle.meaning.specs.Stream.{sizeIn};
-ghost use Rattle.sheet_convert.specs.Conversion.{wideAt, converting, Old, New};
+ghost use Rattle.sheet_convert.specs.Conversion.{wideAt, converting, Old, handing};
 use meaning::Answer;
 use meaning::limits;
 
@@ -60,10 +61,10 @@ fn widen(old: &[u8], sheet: &mut [u8])
     }
 }
 
-// Answers for an old sheet whose bytes, converted, are `sheet`: a bad record, too little room, or those bytes.
-fn hand_out(n: usize, old: &[u8], sheet: &[u8], out: &mut [u8]) -> Answer
-    requires { ⌜ New n (now old) (now sheet) ⌝ }
-    ensures { λ a. ⌜ leaving (now (out .exit)) a ≡ converting n (now (old .entry)) (now (out .entry)) ⌝ }
+// Hands out a sheet of today: answers for a bad record, for too little room, or copies it.
+fn hand_out(n: usize, sheet: &[u8], out: &mut [u8]) -> Answer
+    requires { ⌜ badShape n (now sheet) ≡ false ⌝ }
+    ensures { λ a. ⌜ leaving (now (out .exit)) a ≡ handing n (now (sheet .entry)) (now (out .entry)) ⌝ }
 {
     let a = form::check_sheet(n, sheet, 0);
     let v = meaning::numbers(a);
@@ -77,13 +78,13 @@ fn hand_out(n: usize, old: &[u8], sheet: &[u8], out: &mut [u8]) -> Answer
     Answer::Done
 }
 
-// `convert` of an old sheet of N records, with room to convert it in.
+// Converts an old sheet of N records, in a room as long as the new one.
 fn convert_in(n: usize, old: &[u8], sheet: &mut [u8], out: &mut [u8]) -> Answer
     requires { ⌜ Old n (now old) × (length (now sheet) ≡ 2 ^ n * recordBytes) ⌝ }
     ensures { λ a. ⌜ leaving (now (out .exit)) a ≡ converting n (now (old .entry)) (now (out .entry)) ⌝ }
 {
     widen(old, sheet);
-    hand_out(n, old, sheet, out)
+    hand_out(n, sheet, out)
 }
 
 // Converts an old sheet. `old` is to be N = 2 to the n records of 20 bytes, n from 0 to 7. Answers Done (0) and writes the new

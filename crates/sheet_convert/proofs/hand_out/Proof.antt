@@ -1,6 +1,6 @@
 use native.Mathlib.Omega.{arith}
 use borrow.Author.Needs.{needs}
-use Rattle.sheet_convert.proofs.Converting.{bad, short, converted}
+use Rattle.sheet_convert.proofs.Converting.{bad, short, copied}
 use Rattle.sheet_convert.proofs.hand_out.Statement.{statement}
 use Rattle.sheet_convert.proofs.hand_out.Tie as tie
 
@@ -15,15 +15,15 @@ array-read-if1 c = search needs
 
 returns : tie.Need-returns
 returns c =
-    let start = c .before .before .before .before .before .before in
+    let start = c .before .before .before .before .before in
     let A = start .args in
-    bad (A .n) (A .old .now) (A .sheet .now) (A .out .now) (start .pre) _ (c .before .before .check-sheet .ensures) _ (c .before .numbers .ensures) (c .if1 .taken)
+    bad (A .n) (A .sheet .now) (A .out .now) (start .pre) _ (c .before .before .check-sheet .ensures) _ (c .before .numbers .ensures) (c .if1 .taken)
 
 returns-2 : tie.Need-returns-2
 returns-2 c =
-    let start = c .before .before .before .before .before .before .before in
+    let start = c .before .before .before .before .before .before in
     let A = start .args in
-    short (A .n) (A .old .now) (A .sheet .now) (A .out .now) (start .pre) _ (c .before .before .before .check-sheet .ensures) _ (c .before .before .numbers .ensures) (c .before .if1 .left) (omega arith)
+    short (A .n) (A .sheet .now) (A .out .now) (start .pre) _ (c .before .before .before .check-sheet .ensures) _ (c .before .before .numbers .ensures) (c .before .if1 .left) (omega arith)
 
 copy-requires : tie.Need-copy-requires
 copy-requires c κs = search needs
@@ -34,9 +34,9 @@ same-length c = search needs
 returns-3 : tie.Need-returns-3
 returns-3 c =
     let asked = c .before .before .before .before in
-    let start = asked .before .before .before .before .before .before .before in
+    let start = asked .before .before .before .before .before .before in
     let A = start .args in
-    converted (A .n) (A .old .now) (A .sheet .now) (A .out .now) (start .pre) _ (asked .before .before .before .check-sheet .ensures) _ (asked .before .before .numbers .ensures) (asked .before .if1 .left) (omega (arith, asked .if2 .left)) _ (c .before .before .copy .ensures .1)
+    copied (A .n) (A .sheet .now) (A .out .now) (start .pre) _ (asked .before .before .before .check-sheet .ensures) _ (asked .before .before .numbers .ensures) (asked .before .if1 .left) (omega (arith, asked .if2 .left)) _ (c .before .before .copy .ensures .1)
 
 pub hand-out-spec : {M : Type 1} → statement M
 hand-out-spec =
