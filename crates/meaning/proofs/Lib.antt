@@ -1,6 +1,6 @@
 -- The laws of the definitions, in reading order.
 --     Polar, Formula            the transform
---     Layouts                   a sheet of today is one in today's layout
+--     Layouts, Sizing           a sheet of today is one in today's layout; the search for its n
 --     Sound                     a sheet with no bad record
 --     Remainder, Divide         the check
 --     Ones                      its sequence: r ones, then the free bits
@@ -21,6 +21,7 @@
 pub mod Polar
 pub mod Formula
 pub mod Layouts
+pub mod Sizing
 pub mod Sound
 pub mod Remainder
 pub mod Divide

@@ -104,5 +104,10 @@ module _ (n : ℕ) (old : List ℕ) (o : Old n old) where
   pub handed : (out : List ℕ) → handing n (widened oldLayout layout n old) out ≡ converting n old out
   unfolding handing converting convertRefusals
   handed out =
-      rw (bad-today n (widened oldLayout layout n old), new-bad wider n old (o .small), new-long wider n old,
-      le-ltb oldLargestN n (o .small), eq-eqb (length old) (2 ^ n * oldRecordBytes) (o .long))
+      rw (
+        bad-today n (widened oldLayout layout n old),
+        new-bad wider n old (o .small),
+        new-long wider n old,
+        le-ltb oldLargestN n (o .small),
+        eq-eqb (length old) (2 ^ n * oldRecordBytes) (o .long),
+      )

@@ -1,5 +1,6 @@
 -- The records of a widened sheet say what those of the sheet said.
 --     Wider L M         M has room for the records of L, and L for the positions of its sheets; wider, today's and the old one
+--     size-fits         N of an old sheet is no more than the positions of its masks
 --     new-byte          byte k of a new record: the old record's, or 0 behind it
 --     grown, new-mask   the mask of an old record, and no more names
 --     new-fine          a new record breaks no rule where the old one breaks none
@@ -37,6 +38,10 @@ pub record Wider (L M : Layout) : Type 0 where
 pub wider : Wider oldLayout layout
 unfolding largestN maskBytes recordBytes oldLargestN oldMaskBytes oldRecordBytes
 wider = record { head = refl; head′ = refl; wide = omega arith; high = omega arith; room = omega arith }
+
+-- N of an old sheet is no more than the positions of its masks
+pub size-fits : (n : ℕ) → n ≤ oldLargestN → 2 ^ n ≤ 8 * oldMaskBytes
+size-fits n h = omega (arith, pow-mono h, wider .room)
 
 -- the positions that only the masks of M have
 abbrev pub more : Layout → Layout → ℕ

@@ -5,7 +5,7 @@ use lib.ListN.{length-take}
 use borrow.Author.Needs.{needs}
 use Rattle.meaning.specs.Limits.{recordBytes, maskBytes, oldLargestN, oldRecordBytes, oldMaskBytes}
 use Rattle.sheet_convert.proofs.Converting.{too-large, not-long}
-use Rattle.sheet_convert.proofs.Sizing.{size-fits}
+use Rattle.sheet_convert.proofs.Widening.{size-fits}
 use Rattle.sheet_convert.proofs.convert.Statement.{statement}
 use Rattle.sheet_convert.proofs.convert.Tie as tie
 

@@ -3,7 +3,8 @@ use Prim.Native.Nat.{ℕ, suc, _*_, _≤_, _-_}
 use native.Mathlib.Omega.{arith}
 use borrow.Author.Needs.{needs}
 use Rattle.meaning.specs.Limits.{oldLayout, oldLargestN, oldRecordBytes, oldMaskBytes}
-use Rattle.sheet_convert.proofs.Sizing.{size-fits, Left, size-start, size-found, size-next, size-none}
+use Rattle.sheet_convert.proofs.Widening.{size-fits}
+use Rattle.meaning.proofs.Sizing.{Left, size-start, size-found, size-next, size-none}
 use Rattle.sheet_convert.proofs.old_size.Statement.{statement}
 use Rattle.sheet_convert.proofs.old_size.Tie as tie
 

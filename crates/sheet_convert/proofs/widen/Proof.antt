@@ -3,7 +3,7 @@ use native.Mathlib.Omega.{arith}
 use lib.ListN.{length}
 use Rattle.meaning.specs.Limits.{layout, oldLayout, recordBytes, maskBytes, oldRecordBytes, oldMaskBytes}
 use Rattle.sheet_convert.specs.Conversion.{wideAt}
-use Rattle.sheet_convert.proofs.Filling.{Filling, filling-none, filling-next, filling-all}
+use Rattle.bits.proofs.Filling.{Filling, filling-none, filling-next, filling-all}
 use Rattle.sheet_convert.proofs.widen.Statement.{statement}
 use Rattle.sheet_convert.proofs.widen.Tie as tie
 

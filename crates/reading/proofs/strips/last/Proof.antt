@@ -6,7 +6,7 @@ use Rattle.bits.specs.Rows.{row}
 use Rattle.verdict.specs.Reading.{rowLast}
 use Rattle.reading.specs.Words.{lastWords}
 use Rattle.reading.proofs.Cutting.{row-in, row-long, row-cut}
-use Rattle.reading.proofs.Filling.{Filling, filling-none, filling-next, filling-all}
+use Rattle.bits.proofs.Filling.{Filling, filling-none, filling-next, filling-all}
 use Rattle.reading.proofs.strips.last.Statement.{statement}
 use Rattle.reading.proofs.strips.last.Tie as tie
 

@@ -7,7 +7,7 @@ use borrow.Author.Needs.{needs}
 use borrow.Author.Tests.{not-true, not-false}
 use Rattle.reading.specs.Words.{agreeable}
 use Rattle.reading.proofs.Cutting.{row-in, row-long, row-cut}
-use Rattle.reading.proofs.Filling.{Passing, passing-none, passing-next, passing-stops, passing-all}
+use Rattle.reading.proofs.Passing.{Passing, passing-none, passing-next, passing-stops, passing-all}
 use Rattle.reading.proofs.strips.sound.Statement.{statement}
 use Rattle.reading.proofs.strips.sound.Tie as tie
 

@@ -1,5 +1,4 @@
--- The search for the n of a sheet, from its length.
---     size-fits       no size passes the most positions
+-- The search for the n of a sheet, from its length, in any layout.
 --     Left, size-start, size-found, size-next, size-none     what is left to search: all, n is it, one less, nothing
 use mathlib.Core.Path.{_≡_, sym, ap, _∙_}
 use Prim.Native.Nat.{ℕ, suc, _+_, _*_, _^_, _≤_, _<_}
@@ -10,16 +9,11 @@ use mathlib.Core.Bool.{Bool}
 use mathlib.Core.List.{List}
 use lib.ListN.{length, drop, getD}
 use lib.Dec.{eqb}
-use lib.Pow.{pow-mono}
 use borrow.Author.Tests.{eq-eqb, ne-eqb}
 use Rattle.bits.specs.Vectors.{tab, firstPlace}
 use Rattle.bits.proofs.Tests.{tab-at, length-tab, place-found, place-next, place-end}
-use Rattle.meaning.specs.Limits.{Layout, oldLayout, oldLargestN, oldMaskBytes}
+use Rattle.meaning.specs.Limits.{Layout}
 use Rattle.meaning.specs.Stream.{sizeIn}
-use Rattle.sheet_convert.proofs.Widening.{wider}
-
-pub size-fits : (n : ℕ) → n ≤ oldLargestN → 2 ^ n ≤ 8 * oldMaskBytes
-size-fits n h = omega (arith, pow-mono h, wider .room)
 
 module _ (L : Layout) (s : List ℕ) where
   abbrev has : ℕ → Bool

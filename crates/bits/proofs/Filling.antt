@@ -1,4 +1,4 @@
--- What the loop keeps.
+-- What a loop keeps that fills a list place by place.
 --     Filling f m l i, and its steps     the first i of m places of l hold f 0, f 1, ..: no place, one place more, all places
 use mathlib.Core.Path.{_≡_, refl, sym, ap, _∙_}
 use Prim.Native.Nat.{ℕ, _+_, _≤_, _<_}
