@@ -17,7 +17,8 @@ use borrow.Author.Tests.{ltb-false, eqb-true, not-false}
 use Rattle.bits.proofs.Tests.{or-false-l, or-false-r}
 use Rattle.meaning.specs.Limits.{layout, oldLayout, recordBytes, oldLargestN, oldRecordBytes}
 use Rattle.meaning.specs.Sheet.{Rule, rules, rulesIn, badIn, frees}
-use Rattle.meaning.specs.Codewords.{codewords}
+use Rattle.meaning.specs.Codewords.{codewords, candidates, payloadOf}
+use Rattle.meaning.specs.Open.{unknowns, equations}
 use Rattle.meaning.specs.Answers.{Reply, isDone, refuses, badShapeIn, checking, checkingIn, leaving, writing}
 use Rattle.meaning.specs.declared.Answer.{Answer}
 use Rattle.meaning.specs.declared.Answer.the-variants.{Done}
@@ -26,7 +27,7 @@ use Rattle.meaning.proofs.Refusals.{done-none, first-none, refused-untouched}
 use Rattle.meaning.proofs.Determined.{reply-determined}
 use Rattle.sheet_convert.specs.Conversion.{widened, convertRefusals, converting, Old}
 use Rattle.sheet_convert.proofs.Widening.{wider, new-long}
-use Rattle.sheet_convert.proofs.Same.{same-frees, same-code, same-check}
+use Rattle.sheet_convert.proofs.Same.{same-frees, same-code, same-payload, same-agreeing, same-unknowns, same-equations, same-check}
 
 -- `sheet` is the code that `old` was
 pub record Converted (n : ℕ) (old sheet : List ℕ) : Type 0 where
@@ -34,6 +35,12 @@ pub record Converted (n : ℕ) (old sheet : List ℕ) : Type 0 where
   pub code : (r : ℕ) → codewords n (rules n sheet) r ≡ codewords n (rulesIn oldLayout n old) r
   -- the same K
   pub count : frees (rules n sheet) ≡ frees (rulesIn oldLayout n old)
+  -- the same payload of every codeword
+  pub payload : (r : ℕ) (x : List Bool) → payloadOf n (rules n sheet) r x ≡ payloadOf n (rulesIn oldLayout n old) r x
+  -- of any word, the same agreeing codewords, the same g and the same m
+  pub agreeing : (w : List ℕ) (r : ℕ) → candidates n (rules n sheet) r w ≡ candidates n (rulesIn oldLayout n old) r w
+  pub g : (w : List ℕ) → unknowns n (rules n sheet) w ≡ unknowns n (rulesIn oldLayout n old) w
+  pub m : (w : List ℕ) (r : ℕ) → equations n (rules n sheet) r w ≡ equations n (rulesIn oldLayout n old) r w
   -- the check says of it, with any r, what the old check says of the old sheet
   pub check : (r : ℕ) → checking n sheet r ≡ checkingIn oldLayout n old r
 
@@ -43,6 +50,10 @@ same n old o =
     record {
       code = λ r. ap (λ (ks : List Rule). codewords n ks r) e ∙ same-code wider n old r;
       count = ap frees e ∙ same-frees wider n old;
+      payload = λ r x. ap (λ (ks : List Rule). payloadOf n ks r x) e ∙ same-payload wider n old r x;
+      agreeing = λ w r. ap (λ (ks : List Rule). candidates n ks r w) e ∙ same-agreeing wider n old w r;
+      g = λ w. ap (λ (ks : List Rule). unknowns n ks w) e ∙ same-unknowns wider n old w;
+      m = λ w r. ap (λ (ks : List Rule). equations n ks r w) e ∙ same-equations wider n old w r;
       check = λ r. checking-today n (widened oldLayout layout n old) r ∙ same-check wider n old (o .small) (o .long) r;
     }
 
