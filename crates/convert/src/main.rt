@@ -9,6 +9,9 @@ use meaning::limits;
 // One byte more than the longest sheet, so that a longer one is seen. A sheet of today is read too, and known by its length.
 const SHEET: usize = limits::POSITIONS * limits::RECORD + 1;
 
+// Room for the digits of any number.
+const DIGITS: usize = 20;
+
 // Says why nothing is written.
 fn say(s: &[u8]) {
     io::write_all(STDERR_FILENO, s);
@@ -22,7 +25,7 @@ fn ended() -> bool {
 
 // Says that a record breaks a rule, and which.
 fn say_place(place: usize) {
-    let mut text = [0u8; 20];
+    let mut text = [0u8; DIGITS];
     let k = io::decimal(place as u64, &mut text);
     say(b"convert: 12, a record breaks a rule, the first at place ");
     say(&text[0..k]);

@@ -1,4 +1,5 @@
 -- The search for the n of a sheet, from its length, in any layout.
+--     size-right      an n that is found is that of the sheet's length
 --     Left, size-start, size-found, size-next, size-none     what is left to search: all, n is it, one less, nothing
 use mathlib.Core.Path.{_≡_, sym, ap, _∙_}
 use Prim.Native.Nat.{ℕ, suc, _+_, _*_, _^_, _≤_, _<_}
@@ -9,9 +10,9 @@ use mathlib.Core.Bool.{Bool}
 use mathlib.Core.List.{List}
 use lib.ListN.{length, drop, getD}
 use lib.Dec.{eqb}
-use borrow.Author.Tests.{eq-eqb, ne-eqb}
+use borrow.Author.Tests.{eqb-true, eq-eqb, ne-eqb}
 use Rattle.bits.specs.Vectors.{tab, firstPlace}
-use Rattle.bits.proofs.Tests.{tab-at, length-tab, place-found, place-next, place-end}
+use Rattle.bits.proofs.Tests.{tab-at, length-tab, place-passes, place-found, place-next, place-end}
 use Rattle.meaning.specs.Limits.{Layout}
 use Rattle.meaning.specs.Stream.{sizeIn}
 
@@ -21,6 +22,12 @@ module _ (L : Layout) (s : List ℕ) where
 
   abbrev sizes : List ℕ
   sizes = tab (suc (L .largest)) (λ (n : ℕ). n)
+
+  pub size-right : sizeIn L s ≤ L .largest → length s ≡ 2 ^ sizeIn L s * L .bytes
+  size-right h =
+      let l : sizeIn L s < length sizes = omega (arith, length-tab (suc (L .largest)) (λ (n : ℕ). n)) in
+      let at : getD sizes (sizeIn L s) 0 ≡ sizeIn L s = tab-at (suc (L .largest)) (λ (n : ℕ). n) (sizeIn L s) 0 (omega arith) in
+      eqb-true (length s) _ (ap has (sym at) ∙ place-passes has sizes 0 l)
 
   -- what is left to search at n
   abbrev pub Left : ℕ → Type 0

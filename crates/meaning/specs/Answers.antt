@@ -2,6 +2,7 @@
 --     numbersOf a          code, place, g, m, d; isDone a, whether it is Done
 --     Refusal, firstOf     a row of a table of refusals; the first that applies is given
 --     refuses              whether a row applies
+--     sheetRefusals        the rows of a sheet's faults; sheetFaults, badShapeIn L, in any layout
 --     Reply                an answer, and the bytes of the output buffer after the call
 --     checking             the sheet alone, with its r; checkingIn L, a sheet in any layout (proofs/Layouts)
 --     wording              a word alone

@@ -1,24 +1,24 @@
 -- An old sheet is no new one: handed in directly it is refused as 11, in every call and in the stream.
 --     sizes-apart      records of two sizes, with masks of whole words, make no sheets of the same length
---     new-or-old       no length is both an old sheet's and a new one's
+--     never-both       no length is both an old sheet's and a new one's
 --     check-old, encode-old, read-old, decode-old     11 in every call, the output as found
 --     size-old, stream-old     in the stream, no n is found and the one record is that of 11
 use mathlib.Core.Path.{_≡_, refl, sym, ap, _∙_}
-use mathlib.Core.Logic.{_⊎_, ⊎-elim, inl, inr}
+use mathlib.Core.Logic.{⊎-elim}
 use Prim.Native.Nat.{ℕ, zero, suc, _+_, _*_, _/_, _%_, _^_, _≤_, _<_}
 use native.Mathlib.Omega.{arith}
 use native.Mathlib.Nat.{add-mul, div-add-mod}
 use mathlib.Core.Bool.{Bool, true, false, _||_}
 use mathlib.Core.List.{List, [], _∷_}
-use lib.ListN.{length, getD}
-use lib.Dec.{eqb, ltb}
-use borrow.Author.Tests.{eqb-true, ne-eqb, lt-ltb}
-use Rattle.bits.specs.Vectors.{tab}
-use Rattle.bits.proofs.Tests.{length-tab, tab-at, place-passes, le-or-lt}
-use Rattle.meaning.specs.Limits.{largestN, maskBytes, recordBytes, oldMaskBytes, oldRecordBytes}
-use Rattle.meaning.specs.Answers.{Reply, badShape, sheetRefusals, encodeRefusals, readRefusals, formRefusals, decodeRefusals, leaving, checking, encoding, readingBack, decoding}
+use lib.ListN.{length}
+use lib.Dec.{ltb}
+use borrow.Author.Tests.{ne-eqb, lt-ltb}
+use Rattle.bits.proofs.Tests.{le-or-lt}
+use Rattle.meaning.specs.Limits.{layout, largestN, maskBytes, recordBytes, oldMaskBytes, oldRecordBytes}
+use Rattle.meaning.specs.Answers.{badShape, sheetRefusals, encodeRefusals, readRefusals, formRefusals, decodeRefusals, leaving, checking, encoding, readingBack, decoding}
 use Rattle.meaning.specs.Stream.{refusedRecord, sizeOf, records}
 use Rattle.meaning.specs.declared.Answer.the-variants.{BadShape}
+use Rattle.meaning.proofs.Sizing.{size-right}
 
 -- ---- the lengths
 
@@ -40,9 +40,9 @@ sizes-apart zero (suc b) p q h k e = absurd (not-twice (2 ^ b * q) p (fours b q 
 sizes-apart (suc a) zero p q h k e = absurd (not-twice (2 ^ a * p) q (fours a p (omega arith)) k (omega (arith, double a p)))
 sizes-apart (suc a) (suc b) p q h k e = sizes-apart a b p q h k (omega (arith, double a p, double b q))
 
-pub new-or-old : (m n l : ℕ) → l ≡ 2 ^ m * oldRecordBytes → l ≡ 2 ^ n * recordBytes → ⊥
+pub never-both : (m n l : ℕ) → l ≡ 2 ^ m * oldRecordBytes → l ≡ 2 ^ n * recordBytes → ⊥
 unfolding maskBytes recordBytes oldMaskBytes oldRecordBytes
-new-or-old m n l e f = omega (arith, sizes-apart m n oldRecordBytes recordBytes refl refl (sym e ∙ f))
+never-both m n l e f = omega (arith, sizes-apart m n oldRecordBytes recordBytes refl refl (sym e ∙ f))
 
 -- ---- an old sheet of N records, handed in
 
@@ -50,7 +50,7 @@ module _ (m : ℕ) (old : List ℕ) (long : length old ≡ 2 ^ m * oldRecordByte
   module _ (n : ℕ) where
     bad-shape : badShape n old ≡ true
     unfolding badShape
-    bad-shape = rw (ne-eqb (length old) (2 ^ n * recordBytes) (new-or-old m n (length old) long)) (or-true (ltb largestN n))
+    bad-shape = rw (ne-eqb (length old) (2 ^ n * recordBytes) (never-both m n (length old) long)) (or-true (ltb largestN n))
       where
         or-true : (b : Bool) → b || true ≡ true
         or-true true = refl
@@ -73,20 +73,10 @@ module _ (m : ℕ) (old : List ℕ) (long : length old ≡ 2 ^ m * oldRecordByte
       unfolding decoding decodeRefusals formRefusals sheetRefusals
       decode-old c = rw bad-shape
 
-  abbrev sizes : List ℕ
-  sizes = tab (suc largestN) (λ (n : ℕ). n)
-
   -- no n is found from its length
-  found : sizeOf old ≤ largestN → ⊥
-  unfolding sizeOf
-  found l =
-      let has : ℕ → Bool = λ n. eqb (length old) (2 ^ n * recordBytes) in
-      let at : getD sizes (sizeOf old) 0 ≡ sizeOf old = tab-at (suc largestN) (λ (n : ℕ). n) (sizeOf old) 0 (omega arith) in
-      let passes : has (getD sizes (sizeOf old) 0) ≡ true = place-passes has sizes 0 (omega (arith, length-tab (suc largestN) (λ (n : ℕ). n))) in
-      new-or-old m (sizeOf old) (length old) long (eqb-true (length old) _ (ap has (sym at) ∙ passes))
-
   pub size-old : largestN < sizeOf old
-  size-old = ⊎-elim (λ l. absurd (found l)) (λ l. l) (le-or-lt (sizeOf old) largestN)
+  unfolding sizeOf
+  size-old = ⊎-elim (λ l. absurd (never-both m (sizeOf old) (length old) long (size-right layout old l))) (λ l. l) (le-or-lt (sizeOf old) largestN)
 
   pub stream-old : (ch input : List ℕ) → records old ch input ≡ refusedRecord BadShape ∷ []
   unfolding records

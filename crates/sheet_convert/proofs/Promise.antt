@@ -1,6 +1,6 @@
 -- What follows from the promise of `convert`: of any answer a, and bytes x of the output after the call.
 --     convert-determined     any two results that the promise allows are equal
---     convert-refused        what is refused leaves the output as found
+--     convert-refused, convert-done     what is refused leaves the output as found, and what is not is answered 0
 --     given, roomy, new-fits     where it answers 0, an old sheet was given, and room for the new one
 --     Converted, convert-same     and the output starts with a sheet that is the same code
 --     convert-rest           and later bytes stay
@@ -8,11 +8,11 @@ use mathlib.Core.Path.{_≡_, refl, sym, ap, _∙_}
 use Prim.Native.Nat.{ℕ, _*_, _/_, _^_, _≤_}
 use native.Mathlib.Omega.{arith}
 use native.Mathlib.Nat.{div-eq-of-eq-mul-left}
-use mathlib.Core.Bool.{Bool, true, false, not}
+use mathlib.Core.Bool.{Bool, true, false}
 use mathlib.Core.List.{List, _++_}
 use lib.ListN.{length, take, drop}
 use lib.Seq.{take-at, drop-at}
-use lib.Dec.{eqb, ltb}
+use lib.Dec.{ltb}
 use borrow.Author.Tests.{ltb-false, eqb-true, not-false}
 use Rattle.bits.proofs.Tests.{or-false-l, or-false-r}
 use Rattle.meaning.specs.Limits.{layout, oldLayout, recordBytes, oldLargestN, oldRecordBytes}
@@ -64,6 +64,10 @@ module _ (n : ℕ) (old out x : List ℕ) (a : Answer) (p : leaving x a ≡ conv
   pub convert-refused : refuses (convertRefusals n old (length out)) ≡ true → x ≡ out
   unfolding converting
   convert-refused h = ap (λ (t : Reply). t .bytes) p ∙ refused-untouched out (convertRefusals n old (length out)) _ h
+
+  pub convert-done : refuses (convertRefusals n old (length out)) ≡ false → a ≡ Done
+  unfolding converting
+  convert-done h = ap (λ (t : Reply). t .answer) (p ∙ first-none (leaving out) (convertRefusals n old (length out)) _ h)
 
   -- where it answers 0
   module _ (d : isDone a ≡ true) where
