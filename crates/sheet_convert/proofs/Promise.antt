@@ -19,7 +19,7 @@ use Rattle.meaning.specs.Limits.{layout, oldLayout, recordBytes, oldLargestN, o
 use Rattle.meaning.specs.Sheet.{Rule, rules, rulesIn, badIn, frees}
 use Rattle.meaning.specs.Codewords.{codewords, candidates, payloadOf}
 use Rattle.meaning.specs.Open.{unknowns, equations}
-use Rattle.meaning.specs.Answers.{Reply, isDone, refuses, badShapeIn, checking, checkingIn, leaving, writing}
+use Rattle.meaning.specs.Answers.{Reply, isDone, refuses, badShapeIn, checking, checkingIn, leaving}
 use Rattle.meaning.specs.declared.Answer.{Answer}
 use Rattle.meaning.specs.declared.Answer.the-variants.{Done}
 use Rattle.meaning.proofs.Layouts.{rules-today, checking-today}

@@ -4,21 +4,21 @@
 --     same-payload   every codeword carries the same payload
 --     same-agreeing, same-unknowns, same-equations     of any word: the agreeing codewords, g and m are the same
 --     same-check     the check says of it, with any r, what the old check says of the old sheet
-use mathlib.Core.Path.{_≡_, refl, sym, ap, ap₂, _∙_}
+use mathlib.Core.Path.{_≡_, refl, ap, ap₂, _∙_}
 use Prim.Native.Nat.{ℕ, zero, suc, _+_, _*_, _-_, _^_, _≤_}
 use native.Mathlib.Omega.{arith}
-use mathlib.Core.Bool.{Bool, true, false, _&&_, not}
+use mathlib.Core.Bool.{Bool, false, _&&_, not}
 use mathlib.Core.List.{List, [], _∷_, _++_, map}
 use lib.ListN.{length, take}
 use borrow.Author.Tests.{le-ltb, eq-eqb}
 use Rattle.bits.specs.Vectors.{_⊕_, tab, filter, keep, odd, ones, allBits}
 use Rattle.meaning.specs.Limits.{Layout, leads}
 use Rattle.meaning.specs.Transform.{polar}
-use Rattle.meaning.specs.Sheet.{Rule, free, frozen, ruleIn, rulesIn, badIn, frees}
+use Rattle.meaning.specs.Sheet.{Rule, free, frozen, ruleIn, rulesIn, frees}
 use Rattle.meaning.specs.Check.{keepsRules, freeBits, divides, keeps}
 use Rattle.meaning.specs.Codewords.{codewords, agrees, candidates, payloadOf}
 use Rattle.meaning.specs.Open.{openFree, closedFrozen, openAll, unknowns, equations}
-use Rattle.meaning.specs.Answers.{badShapeIn, checkingIn}
+use Rattle.meaning.specs.Answers.{checkingIn}
 use Rattle.sheet_convert.specs.Conversion.{widened}
 use Rattle.sheet_convert.proofs.Widening.{Wider, grown, grownRule, more, new-long, new-rules, new-bad}
 

@@ -1,5 +1,6 @@
 -- The records of a widened sheet say what those of the sheet said.
---     Wider L M         M has room for the records of L, and L for the positions of its sheets; wider, today's and the old one
+--     Wider L M         M has room for the records of L, and the masks of L for the positions of its sheets
+--     wider, next-wider     today's layout is wider than the old one, and any next one than today's
 --     size-fits         N of an old sheet is no more than the positions of its masks
 --     new-byte          byte k of a new record: the old record's, or 0 behind it
 --     grown, new-mask   the mask of an old record, and no more names
@@ -11,7 +12,7 @@ use Prim.Native.Nat.{ℕ, zero, suc, _+_, _*_, _-_, _/_, _%_, _^_, _≤_, _<_}
 use native.Mathlib.Omega.{arith}
 use native.Mathlib.Nat.{mul-add-div-right, mul-add-mod-self-right, mod-eq-of-lt, div-eq-of-lt, add-zero}
 use mathlib.Core.Bool.{Bool, true, false, not}
-use mathlib.Core.List.{List, [], _∷_, _++_, map}
+use mathlib.Core.List.{List, [], _∷_, _++_}
 use lib.ListN.{length, drop, replicate}
 use lib.Seq.{drop-append-le}
 use lib.Dec.{eqb, ltb}
@@ -23,7 +24,7 @@ use Rattle.bits.proofs.Tests.{length-tab, tab-at, tab-below, tab-append}
 use Rattle.bits.proofs.RowLaws.{row-fit}
 use Rattle.bits.proofs.WordBits.{zero-bit}
 use Rattle.meaning.specs.Limits.{Layout, layout, oldLayout, largestN, maskBytes, recordBytes, oldLargestN, oldMaskBytes, oldRecordBytes}
-use Rattle.meaning.specs.Sheet.{Rule, free, frozen, ruleBy, fineBy, byteIn, namesIn, maskIn, ruleIn, rulesIn, fineIn, badIn}
+use Rattle.meaning.specs.Sheet.{Rule, free, frozen, byteIn, namesIn, maskIn, ruleIn, rulesIn, fineIn, badIn}
 use Rattle.sheet_convert.specs.Conversion.{wideAt, widened}
 
 -- ---- two layouts
@@ -38,6 +39,11 @@ pub record Wider (L M : Layout) : Type 0 where
 pub wider : Wider oldLayout layout
 unfolding largestN maskBytes recordBytes oldLargestN oldMaskBytes oldRecordBytes
 wider = record { head = refl; head′ = refl; wide = omega arith; high = omega arith; room = omega arith }
+
+-- the next layout, with longer masks, is wider than today's
+pub next-wider : (n m : ℕ) → largestN ≤ n → maskBytes ≤ m → Wider layout (record { largest = n; mask = m; bytes = 4 + m })
+unfolding largestN maskBytes recordBytes
+next-wider n m h k = record { head = refl; head′ = refl; wide = k; high = h; room = omega arith }
 
 -- N of an old sheet is no more than the positions of its masks
 pub size-fits : (n : ℕ) → n ≤ oldLargestN → 2 ^ n ≤ 8 * oldMaskBytes

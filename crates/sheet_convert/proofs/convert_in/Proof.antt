@@ -2,7 +2,6 @@ use mathlib.Core.Path.{_≡_, ap, _∙_}
 use Prim.Native.Nat.{ℕ, _*_, _^_}
 use native.Mathlib.Omega.{arith}
 use mathlib.Core.List.{List}
-use lib.ListN.{length}
 use borrow.Author.Needs.{needs}
 use Rattle.bits.specs.Vectors.{tab}
 use Rattle.meaning.specs.Limits.{layout, oldLayout, recordBytes, maskBytes, oldRecordBytes, oldMaskBytes}
