@@ -1,57 +1,20 @@
--- The n of a sheet, and how many records an input gets.
---     Left, size-found, size-next, size-none      the search for n
+-- How many records an input gets.
 --     none-rounded, some-rounded, rounded-fits    division, rounded up
 --     records-shape, records-choice, records-words     the records, case by case
 --     ends-long, ends-short     where a word ends
 use mathlib.Core.Path.{_≡_, sym, ap, _∙_}
 use Prim.Native.Nat.{ℕ, suc, _+_, _-_, _*_, _/_, _^_, _≤_, _<_}
 use native.Mathlib.Omega.{arith}
-use native.Mathlib.Numerals.{add-one}
-use native.Mathlib.Nat.{zero-add, div-eq-of-lt, add-div-right, div-le-self, le-div-iff-mul-le, div-lt-iff-lt-mul}
-use mathlib.Core.Bool.{Bool}
+use native.Mathlib.Nat.{div-eq-of-lt, add-div-right, div-le-self, le-div-iff-mul-le, div-lt-iff-lt-mul}
 use mathlib.Core.List.{List, [], _∷_}
-use lib.ListN.{length, drop, getD}
-use lib.Dec.{eqb}
+use lib.ListN.{length, getD}
 use lib.Pow.{pow-pos}
 use borrow.Author.Tests.{eq-eqb, ne-eqb, lt-ltb, le-ltb}
-use Rattle.bits.specs.Vectors.{tab, firstPlace}
-use Rattle.bits.proofs.Tests.{tab-at, length-tab, place-found, place-next, place-end}
-use Rattle.meaning.specs.Limits.{largestN, recordBytes}
+use Rattle.bits.specs.Vectors.{tab}
+use Rattle.bits.proofs.Tests.{length-tab}
+use Rattle.meaning.specs.Limits.{largestN}
 use Rattle.meaning.specs.Stream.{sizeOf, roundedUp, wordAt, answerRecord, refusedRecord, records}
 use Rattle.meaning.specs.declared.Answer.the-variants.{BadShape, BadCheck}
-
--- ---- the n of a sheet
-
-module _ (s : List ℕ) where
-  abbrev has : ℕ → Bool
-  has n = eqb (length s) (2 ^ n * recordBytes)
-
-  abbrev sizes : List ℕ
-  sizes = tab (suc largestN) (λ (n : ℕ). n)
-
-  -- what is left to search at n
-  abbrev pub Left : ℕ → Type 0
-  Left n = n + firstPlace has (drop n sizes) ≡ sizeOf s
-
-  pub size-start : Left 0
-  unfolding sizeOf
-  size-start = zero-add (firstPlace has sizes)
-
-  module _ (n : ℕ) (l : Left n) where
-    at : n ≤ largestN → getD sizes n 0 ≡ n
-    at h = tab-at (suc largestN) (λ (i : ℕ). i) n 0 (omega arith)
-
-    within : n ≤ largestN → n < length sizes
-    within h = omega (arith, length-tab (suc largestN) (λ (i : ℕ). i))
-
-    pub size-found : n ≤ largestN → length s ≡ 2 ^ n * recordBytes → n ≡ sizeOf s
-    size-found h e = sym (place-found has sizes n 0 (within h) (ap has (at h) ∙ eq-eqb (length s) (2 ^ n * recordBytes) e)) ∙ l
-
-    pub size-next : n ≤ largestN → (length s ≡ 2 ^ n * recordBytes → ⊥) → Left (n + 1)
-    size-next h e = rw add-one (sym (place-next has sizes n 0 (within h) (ap has (at h) ∙ ne-eqb (length s) (2 ^ n * recordBytes) e)) ∙ l)
-
-    pub size-none : largestN < n → n ≡ sizeOf s
-    size-none h = sym (place-end has sizes n (omega (arith, length-tab (suc largestN) (λ (i : ℕ). i)))) ∙ l
 
 -- ---- division, rounded up
 
