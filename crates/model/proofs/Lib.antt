@@ -7,7 +7,6 @@
 --     Decoded    over bits the model is sound
 --     Listed     lists of vectors in their order
 --     Exact      the candidates are the model's codewords at the solutions
---     Kept       over a sum that is its own inverse, known symbols stay
 --     Steps      what a proof of code cites: the cases of the recursion, and its counts
 pub mod Relate
 pub mod Halves
@@ -18,4 +17,3 @@ pub mod Decoded
 pub mod Listed
 pub mod Exact
 pub mod Steps
-pub mod Kept
