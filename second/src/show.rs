@@ -2,7 +2,7 @@
 
 use crate::answer::ORDER;
 use crate::calls::ANSWER_BYTES;
-use crate::limits::{HEADER_BYTES, STRIP_BYTES};
+use crate::limits::{HEADER_BYTES, LARGEST_CEILING, LARGEST_EXPONENT, RECORD_BYTES, STRIP_BYTES};
 
 /// The kinds of record that are counted, by the name in front of their count.
 const KINDS: [&str; 5] = [
@@ -45,7 +45,10 @@ pub fn verdict(code: u16) -> String {
 /// What a refusal says, by its code.
 pub fn refusal(code: u16, place: u16) -> String {
     match code {
-        11 => "the sheet is not 68 N bytes long for an N up to 512".to_string(),
+        11 => format!(
+            "the sheet is not {RECORD_BYTES} N bytes long for an N up to {}",
+            1 << LARGEST_EXPONENT
+        ),
         12 => format!("record {place} of the sheet breaks a rule"),
         13 => "choice.bin is not two bytes, or its check length is not 0, 6 or 11, \
                or leaves no payload"
@@ -53,7 +56,7 @@ pub fn refusal(code: u16, place: u16) -> String {
         14 => "the word is cut off".to_string(),
         15 => format!("symbol {place} is none of 0, 1 and 2"),
         16 => "the output is too short".to_string(),
-        17 => "the ceiling is above 255".to_string(),
+        17 => format!("the ceiling is above {LARGEST_CEILING}"),
         18 => "more unknowns than the ceiling allows".to_string(),
         19 => "the sheet has no free position: it holds nothing".to_string(),
         code => panic!("no refusal {code}"),

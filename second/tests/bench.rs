@@ -4,8 +4,9 @@
 mod common;
 use common::{decode, numbers, sheet_e, symbols, BEFORE};
 use second::answer::Answer;
-use second::calls;
+use second::calls::{self, ANSWER_BYTES};
 use second::code::transform;
+use second::limits::{RECORD_BYTES, STRIP_BYTES};
 
 /// A row of the table: word, code, g, m, d and the three strips, if any are written.
 type Row = (&'static str, u16, u16, u16, u16, Option<[&'static str; 3]>);
@@ -84,9 +85,9 @@ fn ceiling_rows() {
 
 #[test]
 fn one_and_two_symbols() {
-    let free = [0; 20];
+    let free = [0; RECORD_BYTES];
     hold(0, &free, 0, &("2", 1, 1, 0, 1, Some(["2", "0", "1"])));
-    let mut frozen = [0; 20];
+    let mut frozen = free;
     frozen[..2].copy_from_slice(&[1, 1]);
     // W-202: K = 0 answers 19, the rest 0, whatever the word
     hold(0, &frozen, 0, &("2", 19, 0, 0, 0, None));
@@ -95,7 +96,7 @@ fn one_and_two_symbols() {
     // ordered by u, not by x: the last u is 11, whose x is 01
     hold(
         1,
-        &[0; 40],
+        &[0; 2 * RECORD_BYTES],
         0,
         &("22", 1, 2, 0, 2, Some(["22", "00", "01"])),
     );
@@ -135,14 +136,14 @@ fn check_rows() {
         let symbols: Vec<bool> = symbols(x).into_iter().map(|bit| bit == 1).collect();
         assert_eq!(transform(&u), symbols);
     }
-    let mut sheet = vec![0; 160];
+    let mut sheet = vec![0; 8 * RECORD_BYTES];
     sheet[0] = 1;
     let strips = Some(["21122222", first, last]);
     hold(3, &sheet, 6, &("22222222", 1, 7, 6, 1, strips));
     // 01's strips for this row, before W-204, are no codewords now
     hold(3, &sheet, 6, &("00000000", 2, 0, 7, 0, None));
     hold(3, &sheet, 6, &("10011111", 2, 0, 7, 0, None));
-    sheet[20] = 1;
+    sheet[RECORD_BYTES] = 1;
     hold(3, &sheet, 6, &("22222222", 13, 0, 0, 0, None));
     assert_eq!(calls::check_sheet(3, &sheet, 6), Answer::code(13));
 }
@@ -150,15 +151,16 @@ fn check_rows() {
 #[test]
 fn whole_stream() {
     let input = symbols("011110002");
-    let mut out = vec![BEFORE; 2 * 392 + 3];
+    let mut out = vec![BEFORE; 2 * ANSWER_BYTES + 3];
     let answer = calls::stream(&sheet_e(), &[0, 63], &input, &mut out);
-    let mut expected = vec![0, 0, 0, 4, 0, 0, 0, 0];
+    // code, place, g, m and d, low byte first, and six zeros
+    let mut expected = vec![0, 0, 0, 0, 0, 0, 4, 0, 0, 0, 0, 0, 0, 0, 0, 0];
     for _ in 0..3 {
         expected.extend([0, 1, 1, 1, 1, 0, 0, 0]);
-        expected.extend([255; 120]);
+        expected.extend([255; STRIP_BYTES - 8]);
     }
-    expected.extend([14, 0, 0, 0, 0, 0, 0, 0]);
-    expected.extend([255; 384]);
+    expected.extend([14, 0, 0, 0, 0, 0, 0, 0, 0, 0, 0, 0, 0, 0, 0, 0]);
+    expected.extend([255; 3 * STRIP_BYTES]);
     expected.extend([BEFORE; 3]);
     assert_eq!(answer, Answer::code(0));
     assert_eq!(out, expected);

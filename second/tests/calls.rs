@@ -3,41 +3,42 @@
 
 mod common;
 use common::{
-    any_sheet, check_kept, decode, numbers, ones, register, register_bits, symbols, u_of, BEFORE,
+    any_sheet, check_kept, choices, decode, lone, numbers, ones, record, register, register_bits,
+    rounds, symbols, u_of, BEFORE,
 };
 use second::answer::{Answer, OF_CODEC, OF_SHEET, ORDER};
 use second::calls::{self, ANSWER_BYTES};
 use second::code::free_bits;
+use second::limits::{LARGEST_CEILING, LARGEST_EXPONENT, MASK_BYTES, RECORD_BYTES};
 use second::make::{
     any_codeword, bits, bytes, damaged, every_sheet, good, only_word, word_of, Misreading,
     MISREADINGS, STYLES,
 };
 use second::rng::Rng;
 use second::sheet::Sheet;
+use std::collections::BTreeSet;
 
 #[test]
 fn written_reads_back() {
     let mut rng = Rng::new(1);
-    for n in 0..=7 {
-        for r in [0, 6, 11].into_iter().filter(|&r| r < 1 << n) {
-            for _ in 0..20 {
-                let (sheet, read) = any_sheet(&mut rng, n, r);
-                let payload = bits(&mut rng, read.k() - r);
-                let mut word = vec![BEFORE; (1 << n) + 2];
-                let answer = calls::encode(n, &sheet, r, &payload, &mut word);
-                assert_eq!(answer, Answer::code(0));
-                assert_eq!(word.split_off(1 << n), [BEFORE; 2]);
-                assert!(check_kept(&free_bits(&read, &u_of(&word)), r));
-                let mut out = vec![BEFORE; payload.len() + 2];
-                let answer = calls::read_back(n, &sheet, r, &word, &mut out);
-                assert_eq!(answer, Answer::code(0));
-                assert_eq!(out[..payload.len()], payload);
-                assert_eq!(out[payload.len()..], [BEFORE; 2]);
-                let (answer, strips) = decode(n, &sheet, r, 0, &word);
-                let m = (1 << n) - read.k() + r;
-                assert_eq!(answer, numbers(0, 0, 0, m as u16, 0));
-                assert_eq!(strips, Some([(); 3].map(|()| word.clone())));
-            }
+    for (n, r) in choices() {
+        for _ in 0..rounds(n, 20) {
+            let (sheet, read) = any_sheet(&mut rng, n, r);
+            let payload = bits(&mut rng, read.k() - r);
+            let mut word = vec![BEFORE; (1 << n) + 2];
+            let answer = calls::encode(n, &sheet, r, &payload, &mut word);
+            assert_eq!(answer, Answer::code(0));
+            assert_eq!(word.split_off(1 << n), [BEFORE; 2]);
+            assert!(check_kept(&free_bits(&read, &u_of(&word)), r));
+            let mut out = vec![BEFORE; payload.len() + 2];
+            let answer = calls::read_back(n, &sheet, r, &word, &mut out);
+            assert_eq!(answer, Answer::code(0));
+            assert_eq!(out[..payload.len()], payload);
+            assert_eq!(out[payload.len()..], [BEFORE; 2]);
+            let (answer, strips) = decode(n, &sheet, r, 0, &word);
+            let m = (1 << n) - read.k() + r;
+            assert_eq!(answer, numbers(0, 0, 0, m as u16, 0));
+            assert_eq!(strips, Some([(); 3].map(|()| word.clone())));
         }
     }
 }
@@ -46,24 +47,22 @@ fn written_reads_back() {
 fn damaged_words_keep_what_was_stored() {
     let mut rng = Rng::new(2);
     let mut unique = 0;
-    for n in 3..=7 {
-        for r in [0, 6, 11].into_iter().filter(|&r| r < 1 << n) {
-            for round in 0..30 {
-                let (sheet, _) = any_sheet(&mut rng, n, r);
-                let word = any_codeword(&mut rng, n, &sheet, r);
-                let damaged = damaged(&mut rng, &word, round % 4);
-                let (answer, strips) = decode(n, &sheet, r, 63, &damaged);
-                let Some([settled, first, last]) = strips else {
-                    assert_eq!(answer.code, 18);
-                    continue;
-                };
-                for (j, &symbol) in settled.iter().enumerate() {
-                    assert!(symbol == 2 || symbol == word[j]);
-                }
-                if answer.code == 0 {
-                    assert_eq!((&settled, &first, &last), (&word, &word, &word));
-                    unique += usize::from(damaged != word);
-                }
+    for (n, r) in choices().into_iter().filter(|&(n, _)| n >= 3) {
+        for round in 0..rounds(n, 30) {
+            let (sheet, _) = any_sheet(&mut rng, n, r);
+            let word = any_codeword(&mut rng, n, &sheet, r);
+            let damaged = damaged(&mut rng, &word, round % 4);
+            let (answer, strips) = decode(n, &sheet, r, LARGEST_CEILING, &damaged);
+            let Some([settled, first, last]) = strips else {
+                assert_eq!(answer.code, 18);
+                continue;
+            };
+            for (j, &symbol) in settled.iter().enumerate() {
+                assert!(symbol == 2 || symbol == word[j]);
+            }
+            if answer.code == 0 {
+                assert_eq!((&settled, &first, &last), (&word, &word, &word));
+                unique += usize::from(damaged != word);
             }
         }
     }
@@ -74,24 +73,22 @@ fn damaged_words_keep_what_was_stored() {
 fn a_word_is_a_codeword_or_not() {
     let mut rng = Rng::new(3);
     let mut seen = [0; 3];
-    for n in 0..=7 {
-        for r in [0, 6, 11].into_iter().filter(|&r| r < 1 << n) {
-            for _ in 0..30 {
-                let (sheet, read) = any_sheet(&mut rng, n, r);
-                let mut word = any_codeword(&mut rng, n, &sheet, r);
-                word[rng.below(1 << n)] ^= 1;
-                let mut out = vec![BEFORE; read.k() - r];
-                let answer = calls::read_back(n, &sheet, r, &word, &mut out);
-                assert_eq!(answer, Answer::code(answer.code));
-                let mut again = vec![BEFORE; 1 << n];
-                let is_codeword = answer.code == 0
-                    && calls::encode(n, &sheet, r, &out, &mut again).code == 0
-                    && again == word;
-                assert_eq!(answer.code == 0, is_codeword);
-                assert!(is_codeword || out.iter().all(|&byte| byte == BEFORE));
-                assert_eq!(decode(n, &sheet, r, 0, &word).0.code, answer.code);
-                seen[usize::from(answer.code)] += 1;
-            }
+    for (n, r) in choices() {
+        for _ in 0..rounds(n, 30) {
+            let (sheet, read) = any_sheet(&mut rng, n, r);
+            let mut word = any_codeword(&mut rng, n, &sheet, r);
+            word[rng.below(1 << n)] ^= 1;
+            let mut out = vec![BEFORE; read.k() - r];
+            let answer = calls::read_back(n, &sheet, r, &word, &mut out);
+            assert_eq!(answer, Answer::code(answer.code));
+            let mut again = vec![BEFORE; 1 << n];
+            let is_codeword = answer.code == 0
+                && calls::encode(n, &sheet, r, &out, &mut again).code == 0
+                && again == word;
+            assert_eq!(answer.code == 0, is_codeword);
+            assert!(is_codeword || out.iter().all(|&byte| byte == BEFORE));
+            assert_eq!(decode(n, &sheet, r, 0, &word).0.code, answer.code);
+            seen[usize::from(answer.code)] += 1;
         }
     }
     assert!(seen[0] > 10 && seen[2] > 200, "{seen:?}");
@@ -114,29 +111,27 @@ fn is_codeword(n: usize, sheet: &[u8], r: usize, word: &[u8]) -> bool {
 #[test]
 fn the_all_zero_word() {
     let mut rng = Rng::new(12);
-    for n in 0..=7 {
-        for r in [0, 6, 11].into_iter().filter(|&r| r < 1 << n) {
-            for k in [r + 1, rng.within(r + 1, 1 << n), 1 << n] {
-                // no constant is 1
-                for style in [STYLES[0], STYLES[2]] {
-                    let sheet = good(&mut rng, 1 << n, k, style);
-                    let zero = vec![0; 1 << n];
-                    assert_eq!(is_codeword(n, &sheet, r, &zero), r == 0);
-                    // the codeword of the payload of zeros holds what is left of r ones
-                    let mut free_bits = vec![false; k - r];
-                    if r > 0 {
-                        // without the ones it would keep the check
-                        assert!(Misreading::NoOnes.keeps(&vec![false; k], r));
-                        let check = register(ones(r), &vec![false; k], r);
-                        free_bits.extend(register_bits(check, r));
-                    }
-                    let read = Sheet::read(n, &sheet, r).unwrap();
-                    let word = word_of(&read, &free_bits);
-                    assert!(is_codeword(n, &sheet, r, &word));
-                    let mut out = vec![BEFORE; 1 << n];
-                    calls::encode(n, &sheet, r, &vec![0; k - r], &mut out);
-                    assert_eq!(out, word);
+    for (n, r) in choices() {
+        for k in [r + 1, rng.within(r + 1, 1 << n), 1 << n] {
+            // no constant is 1
+            for style in [STYLES[0], STYLES[2]] {
+                let sheet = good(&mut rng, 1 << n, k, style);
+                let zero = vec![0; 1 << n];
+                assert_eq!(is_codeword(n, &sheet, r, &zero), r == 0);
+                // the codeword of the payload of zeros holds what is left of r ones
+                let mut free_bits = vec![false; k - r];
+                if r > 0 {
+                    // without the ones it would keep the check
+                    assert!(Misreading::NoOnes.keeps(&vec![false; k], r));
+                    let check = register(ones(r), &vec![false; k], r);
+                    free_bits.extend(register_bits(check, r));
                 }
+                let read = Sheet::read(n, &sheet, r).unwrap();
+                let word = word_of(&read, &free_bits);
+                assert!(is_codeword(n, &sheet, r, &word));
+                let mut out = vec![BEFORE; 1 << n];
+                calls::encode(n, &sheet, r, &vec![0; k - r], &mut out);
+                assert_eq!(out, word);
             }
         }
     }
@@ -146,18 +141,16 @@ fn the_all_zero_word() {
 fn words_of_a_check_misread() {
     let mut rng = Rng::new(13);
     let mut refused = [0; 4];
-    for n in 3..=7 {
-        for r in [6, 11].into_iter().filter(|&r| r < 1 << n) {
-            for _ in 0..10 {
-                let (sheet, read) = any_sheet(&mut rng, n, r);
-                for (at, misreading) in MISREADINGS.into_iter().enumerate() {
-                    let payload = bits(&mut rng, read.k() - r);
-                    let free_bits = misreading.free_bits(&payload, r);
-                    let word = word_of(&read, &free_bits);
-                    let right = check_kept(&free_bits, r);
-                    assert_eq!(is_codeword(n, &sheet, r, &word), right);
-                    refused[at] += usize::from(!right);
-                }
+    for (n, r) in choices().into_iter().filter(|&(n, r)| n >= 3 && r > 0) {
+        for _ in 0..rounds(n, 10) {
+            let (sheet, read) = any_sheet(&mut rng, n, r);
+            for (at, misreading) in MISREADINGS.into_iter().enumerate() {
+                let payload = bits(&mut rng, read.k() - r);
+                let free_bits = misreading.free_bits(&payload, r);
+                let word = word_of(&read, &free_bits);
+                let right = check_kept(&free_bits, r);
+                assert_eq!(is_codeword(n, &sheet, r, &word), right);
+                refused[at] += usize::from(!right);
             }
         }
     }
@@ -181,30 +174,36 @@ fn sheet_is_good(set: usize) -> bool {
     !ORDER[..OF_SHEET].iter().any(|&code| has(set, code))
 }
 
-/// N = 128, K = 100; the sheet, n and r with the faults 11, 12, 19 and 13 of the set.
+/// K of the sheets with faults, above the largest ceiling, so that all lost is too many.
+const K: usize = LARGEST_CEILING + 45;
+
+/// N of the sheets with faults.
+const N: usize = 1 << LARGEST_EXPONENT;
+
+/// The sheet, n and r with the faults 11, 12, 19 and 13 of the set. Places are above 255.
 fn faulty_sheet(rng: &mut Rng, set: usize) -> (usize, Vec<u8>, usize) {
     let (k, r) = match (has(set, 19), has(set, 13)) {
-        (false, false) => (100, 11),
+        (false, false) => (K, 11),
         (false, true) => (11, 11),
         (true, false) => (0, 0),
         (true, true) => (0, rng.pick(&[6, 11, 5, 65535])),
     };
-    let mut sheet = good(rng, 128, k, STYLES[3]);
+    let mut sheet = good(rng, N, k, STYLES[3]);
     if has(set, 12) {
-        sheet[20 * 77 + 3] = 1;
-        sheet[20 * 90 + 1] = 2;
+        sheet[RECORD_BYTES * 300 + 3] = 1;
+        sheet[RECORD_BYTES * 400 + 1] = 2;
     }
     if has(set, 11) {
         sheet.pop();
     }
-    (7, sheet, r)
+    (LARGEST_EXPONENT, sheet, r)
 }
 
 /// A good vector with the faults 14 and 15 of the set.
 fn faulty_form(mut vector: Vec<u8>, set: usize, bad: u8) -> Vec<u8> {
     if has(set, 15) {
-        vector[5] = bad;
-        vector[9] = 255;
+        vector[260] = bad;
+        vector[270] = 255;
     }
     if has(set, 14) {
         vector.push(0);
@@ -215,8 +214,8 @@ fn faulty_form(mut vector: Vec<u8>, set: usize, bad: u8) -> Vec<u8> {
 /// What a refusal answers: the places of 12 and 15 are those put in above.
 fn refusal(code: u16, g: u16) -> Answer {
     match code {
-        12 => Answer::at(12, 77),
-        15 => Answer::at(15, 5),
+        12 => Answer::at(12, 300),
+        15 => Answer::at(15, 260),
         18 => numbers(18, 0, g, 0, 0),
         code => Answer::code(code),
     }
@@ -246,9 +245,13 @@ fn encode_refuses_in_order() {
     for set in 0..1 << OF_CODEC {
         let (n, sheet, r) = faulty_sheet(&mut rng, set);
         // with no free position the empty payload is right
-        let right = if has(set, 19) && !has(set, 15) { 0 } else { 89 };
+        let right = if has(set, 19) && !has(set, 15) {
+            0
+        } else {
+            K - 11
+        };
         let payload = faulty_form(bits(&mut rng, right), set, 2);
-        let mut out = buffer(128, set);
+        let mut out = buffer(N, set);
         let answer = calls::encode(n, &sheet, r, &payload, &mut out);
         let expected = first(set).map_or(Answer::code(0), |code| refusal(code, 0));
         assert_eq!(answer, expected, "{set:b}");
@@ -262,19 +265,19 @@ fn decode_refuses_in_order() {
     for set in 0..1 << ORDER.len() {
         let (n, sheet, r) = faulty_sheet(&mut rng, set);
         let word = if has(set, 18) {
-            vec![2; 128]
+            vec![2; N]
         } else if sheet_is_good(set) {
             any_codeword(&mut rng, n, &sheet, r)
         } else {
-            vec![0; 128]
+            vec![0; N]
         };
         let word = faulty_form(word, set, 3);
-        let ceiling = if has(set, 17) { 64 } else { 63 };
-        let mut out = buffer(384, set);
+        let ceiling = LARGEST_CEILING + usize::from(has(set, 17));
+        let mut out = buffer(3 * N, set);
         let answer = calls::decode(n, &sheet, r, ceiling, &word, &mut out);
         let expected = match first(set) {
-            Some(code) => refusal(code, 100),
-            None => numbers(0, 0, 0, 39, 0),
+            Some(code) => refusal(code, K as u16),
+            None => numbers(0, 0, 0, (N - K + 11) as u16, 0),
         };
         assert_eq!(answer, expected, "{set:b}");
         assert_eq!(untouched(&out), set != 0);
@@ -289,10 +292,10 @@ fn read_back_refuses_in_order() {
         let codeword = if sheet_is_good(set) {
             any_codeword(&mut rng, n, &sheet, r)
         } else {
-            vec![0; 128]
+            vec![0; N]
         };
         let word = faulty_form(codeword.clone(), set, 2);
-        let mut out = buffer(89, set);
+        let mut out = buffer(K - 11, set);
         let answer = calls::read_back(n, &sheet, r, &word, &mut out);
         let expected = first(set).map_or(Answer::code(0), |code| refusal(code, 0));
         assert_eq!(answer, expected, "{set:b}");
@@ -300,7 +303,7 @@ fn read_back_refuses_in_order() {
         // a word that is none comes after the refusals
         if has(set, 16) && !has(set, 14) && !has(set, 15) && first(set) == Some(16) {
             let mut none = codeword;
-            none[127] ^= 1;
+            none[N - 1] ^= 1;
             let answer = calls::read_back(n, &sheet, r, &none, &mut out);
             assert_eq!(answer, Answer::code(16));
         }
@@ -309,14 +312,14 @@ fn read_back_refuses_in_order() {
 
 #[test]
 fn sheets_at_the_border() {
-    let free = vec![0; 40 * 128];
-    for n in 0..=7 {
-        let right = 20 << n;
+    let free = vec![0; 2 * RECORD_BYTES * N];
+    for n in 0..=LARGEST_EXPONENT {
+        let right = RECORD_BYTES << n;
         for (length, code) in [
             (right, 0),
             (right - 1, 11),
             (right + 1, 11),
-            (right + 20, 11),
+            (right + RECORD_BYTES, 11),
         ] {
             assert_eq!(
                 calls::check_sheet(n, &free[..length], 0),
@@ -324,9 +327,10 @@ fn sheets_at_the_border() {
             );
         }
     }
-    assert_eq!(calls::check_sheet(8, &free, 0), Answer::code(11));
+    let next = LARGEST_EXPONENT + 1;
+    assert_eq!(calls::check_sheet(next, &free, 0), Answer::code(11));
     for n in [63, 64, 256, 65535] {
-        for length in [0, 20, 2560] {
+        for length in [0, RECORD_BYTES, RECORD_BYTES * N] {
             assert_eq!(calls::check_sheet(n, &free[..length], 0), Answer::code(11));
         }
     }
@@ -344,7 +348,11 @@ fn sheets_at_the_border() {
     }
     for r in (0..300).chain([65535]) {
         let code = if [0, 6, 11].contains(&r) { 0 } else { 13 };
-        assert_eq!(calls::check_sheet(7, &free[..2560], r), Answer::code(code));
+        let sheet = &free[..RECORD_BYTES * N];
+        assert_eq!(
+            calls::check_sheet(LARGEST_EXPONENT, sheet, r),
+            Answer::code(code)
+        );
     }
 }
 
@@ -354,9 +362,9 @@ fn hold_refused(n: usize, sheet: &[u8], r: usize, word: &[u8], expected: Answer)
     assert_eq!(calls::check_sheet(n, sheet, r), expected);
     let strange = vec![255; (1 << n) + 1];
     for (payload, word, room, ceiling) in [
-        (&[0; 0][..], word, 3 << n, 63),
+        (&[0; 0][..], word, 3 << n, LARGEST_CEILING),
         (&[], &vec![2; 1 << n], 3 << n, 0),
-        (&strange, &strange, 0, 64),
+        (&strange, &strange, 0, LARGEST_CEILING + 1),
     ] {
         let mut out = vec![BEFORE; room];
         let encoded = calls::encode(n, sheet, r, payload, &mut out);
@@ -370,7 +378,7 @@ fn hold_refused(n: usize, sheet: &[u8], r: usize, word: &[u8], expected: Answer)
 #[test]
 fn sheets_that_hold_nothing() {
     let mut rng = Rng::new(10);
-    for n in 0..=7 {
+    for n in 0..=LARGEST_EXPONENT {
         for style in STYLES {
             let sheet = good(&mut rng, 1 << n, 0, style);
             let word = only_word(n, &sheet);
@@ -380,14 +388,14 @@ fn sheets_that_hold_nothing() {
             }
             // after 11 and 12
             hold_refused(n, &sheet[1..], 0, &word, Answer::code(11));
-            hold_refused(n + 8, &sheet, 0, &word, Answer::code(11));
+            hold_refused(n + LARGEST_EXPONENT + 1, &sheet, 0, &word, Answer::code(11));
             let place = rng.below(1 << n);
             let mut bad = sheet.clone();
-            bad[20 * place + 2] = 1;
+            bad[RECORD_BYTES * place + 2] = 1;
             hold_refused(n, &bad, 5, &word, Answer::at(12, place));
             // one free position is enough
             let mut one = sheet.clone();
-            one[20 * place..20 * (place + 1)].fill(0);
+            one[RECORD_BYTES * place..][..RECORD_BYTES].fill(0);
             assert_eq!(calls::check_sheet(n, &one, 0), Answer::code(0));
             assert_eq!(calls::check_sheet(n, &one, 6), Answer::code(13));
             let codeword = any_codeword(&mut rng, n, &one, 0);
@@ -410,22 +418,22 @@ fn sheets_that_hold_nothing() {
 
 #[test]
 fn every_single_bit_of_a_record() {
-    // a lone mask bit j in record i of N = 128 is good exactly when frozen and j < i
-    for i in [0, 1, 7, 8, 63, 64, 126, 127] {
-        for j in 0..128 {
+    // a lone mask bit j in record i of the largest N is good exactly when frozen and j < i
+    for i in [0, 1, 7, 8, 63, 64, 126, 127, 128, 255, 256, N - 2, N - 1] {
+        for j in 0..8 * MASK_BYTES {
             for kind in [0, 1] {
-                let mut sheet = vec![0; 2560];
-                sheet[20 * i] = kind;
-                sheet[20 * i + 4 + j / 8] = 1 << (j % 8);
+                let mut sheet = vec![0; RECORD_BYTES * N];
+                sheet[RECORD_BYTES * i] = kind;
+                sheet[RECORD_BYTES * i + 4 + j / 8] = 1 << (j % 8);
                 let good = kind == 1 && j < i;
                 let expected = if good {
                     Answer::code(0)
                 } else {
                     Answer::at(12, i)
                 };
-                assert_eq!(calls::check_sheet(7, &sheet, 0), expected);
+                assert_eq!(calls::check_sheet(LARGEST_EXPONENT, &sheet, 0), expected);
                 if good {
-                    let read = Sheet::read(7, &sheet, 0).expect("a good sheet");
+                    let read = Sheet::read(LARGEST_EXPONENT, &sheet, 0).expect("a good sheet");
                     assert_eq!(read.records[i].named, [j]);
                 }
             }
@@ -434,9 +442,9 @@ fn every_single_bit_of_a_record() {
     for at in 0..4 {
         for value in 0..=255 {
             for kind in [0, 1] {
-                let mut sheet = vec![0; 40];
-                sheet[20] = kind;
-                sheet[20 + at] = value;
+                let mut sheet = vec![0; 2 * RECORD_BYTES];
+                sheet[RECORD_BYTES] = kind;
+                sheet[RECORD_BYTES + at] = value;
                 let good = match at {
                     0 => value <= 1,
                     1 => value <= kind,
@@ -455,21 +463,22 @@ fn every_single_bit_of_a_record() {
 
 #[test]
 fn ceiling_at_its_edges() {
-    let free = vec![0; 2560];
-    for lost in [0, 1, 62, 63, 64, 128] {
-        let word: Vec<u8> = (0..128).map(|j| if j < lost { 2 } else { 0 }).collect();
-        for ceiling in [0, 1, 61, 62, 63] {
+    let (n, most) = (LARGEST_EXPONENT, LARGEST_CEILING);
+    let free = vec![0; RECORD_BYTES * N];
+    for lost in [0, 1, 63, 64, most - 1, most, most + 1, N] {
+        let word: Vec<u8> = (0..N).map(|j| if j < lost { 2 } else { 0 }).collect();
+        for ceiling in [0, 1, 62, 63, 64, most - 2, most - 1, most] {
             let code = match lost {
                 _ if lost > ceiling => 18,
                 0 => 0,
                 _ => 1,
             };
             let d = if code == 1 { lost } else { 0 };
-            let answer = decode(7, &free, 0, ceiling, &word).0;
+            let answer = decode(n, &free, 0, ceiling, &word).0;
             assert_eq!(answer, numbers(code, 0, lost as u16, 0, d as u16));
         }
-        for ceiling in [64, 255, 65535] {
-            assert_eq!(decode(7, &free, 0, ceiling, &word).0, Answer::code(17));
+        for ceiling in [most + 1, 65535] {
+            assert_eq!(decode(n, &free, 0, ceiling, &word).0, Answer::code(17));
         }
     }
 }
@@ -477,23 +486,14 @@ fn ceiling_at_its_edges() {
 /// One record of a stream, made from decoding its word alone.
 fn alone(n: usize, sheet: &[u8], r: usize, ceiling: usize, word: &[u8]) -> Vec<u8> {
     let (answer, strips) = decode(n, sheet, r, ceiling, word);
-    let mut record: Vec<u8> = answer.numbers().map(|number| number as u8).to_vec();
-    record.extend([0; 3]);
-    for s in 0..3 {
-        let mut strip = strips
-            .as_ref()
-            .map_or(Vec::new(), |strips| strips[s].clone());
-        strip.resize(128, 255);
-        record.extend(strip);
-    }
-    record
+    record(answer.numbers(), strips)
 }
 
 #[test]
 fn every_word_of_a_stream_has_its_own_record() {
     let mut rng = Rng::new(9);
-    let mut codes = std::collections::BTreeSet::new();
-    for n in 0..=7 {
+    let mut codes = BTreeSet::new();
+    for n in 0..=LARGEST_EXPONENT {
         for (r, ceiling, none_free) in [
             (0, 63, false),
             (6, 3, false),
@@ -501,7 +501,7 @@ fn every_word_of_a_stream_has_its_own_record() {
             (0, 64, false),
             (5, 63, false),
             (6, 255, false),
-            (0, 63, true),
+            (0, 255, true),
             (5, 64, true),
         ] {
             let k = if none_free {
@@ -511,7 +511,7 @@ fn every_word_of_a_stream_has_its_own_record() {
             };
             let mut sheet = good(&mut rng, 1 << n, k, STYLES[3]);
             if r == 11 && n % 2 == 0 {
-                sheet[20 * ((1 << n) - 1) + 2] = 9;
+                sheet[RECORD_BYTES * ((1 << n) - 1) + 2] = 9;
             }
             let mut input = Vec::new();
             for count in 0..6 {
@@ -540,25 +540,14 @@ fn every_word_of_a_stream_has_its_own_record() {
             assert!(out == expected, "n {n} r {r}");
         }
     }
-    assert!(
-        [0, 1, 2, 12, 13, 14, 15, 17, 18, 19]
-            .iter()
-            .all(|code| codes.contains(code)),
-        "{codes:?}"
-    );
-}
-
-/// A record of a code with the rest 0 and no strips.
-fn lone(code: u8) -> Vec<u8> {
-    let mut record = vec![255; ANSWER_BYTES];
-    record[..8].copy_from_slice(&[code, 0, 0, 0, 0, 0, 0, 0]);
-    record
+    // a ceiling of one byte is never too large
+    assert_eq!(codes, BTreeSet::from([0, 1, 2, 12, 13, 14, 15, 18, 19]));
 }
 
 #[test]
 fn streams_of_a_sheet_that_holds_nothing() {
     let mut rng = Rng::new(11);
-    for n in 0..=7 {
+    for n in 0..=LARGEST_EXPONENT {
         let sheet = good(&mut rng, 1 << n, 0, STYLES[3]);
         let mut input = only_word(n, &sheet);
         input.extend(vec![2; 1 << n]);
@@ -587,37 +576,37 @@ fn streams_of_a_sheet_that_holds_nothing() {
 #[test]
 fn streams_that_read_no_word() {
     let input = symbols("0101");
-    let free = vec![0; 5120];
+    let free = vec![0; 2 * RECORD_BYTES * N];
     for (sheet, choice, expected) in [
         (0, 2, lone(11)),
-        (19, 2, lone(11)),
-        (60, 0, lone(11)),
-        (5120, 2, lone(11)),
-        (40, 0, lone(13)),
-        (40, 1, lone(13)),
-        (2560, 3, lone(13)),
+        (RECORD_BYTES - 1, 2, lone(11)),
+        (3 * RECORD_BYTES, 0, lone(11)),
+        (free.len(), 2, lone(11)),
+        (2 * RECORD_BYTES, 0, lone(13)),
+        (2 * RECORD_BYTES, 1, lone(13)),
+        (free.len() / 2, 3, lone(13)),
     ] {
         for input in [&input[..], &[]] {
-            let mut out = vec![BEFORE; 392 + 1];
+            let mut out = vec![BEFORE; ANSWER_BYTES + 1];
             let answer = calls::stream(&free[..sheet], &[0; 3][..choice], input, &mut out);
             assert_eq!(answer, Answer::code(0));
             assert_eq!(out.pop(), Some(BEFORE));
             assert_eq!(out, expected, "sheet {sheet}, choice {choice}");
-            let mut short = vec![BEFORE; 391];
+            let mut short = vec![BEFORE; ANSWER_BYTES - 1];
             let answer = calls::stream(&free[..sheet], &[0; 3][..choice], input, &mut short);
             assert_eq!(answer, Answer::code(16));
             assert!(untouched(&short));
         }
     }
-    let answer = calls::stream(&free[..40], &[0, 63], &[], &mut []);
+    let answer = calls::stream(&free[..2 * RECORD_BYTES], &[0, 63], &[], &mut []);
     assert_eq!(
         answer,
         Answer::code(0),
         "no word, no record, no room needed"
     );
-    for (room, code) in [(0, 16), (783, 16), (784, 0)] {
+    for (room, code) in [(0, 16), (2 * ANSWER_BYTES - 1, 16), (2 * ANSWER_BYTES, 0)] {
         let mut out = vec![BEFORE; room];
-        let answer = calls::stream(&free[..40], &[0, 63], &input[..3], &mut out);
+        let answer = calls::stream(&free[..2 * RECORD_BYTES], &[0, 63], &input[..3], &mut out);
         assert_eq!(answer, Answer::code(code));
         assert_eq!(untouched(&out), code == 16);
     }

@@ -4,6 +4,7 @@
 mod common;
 use common::{any_sheet, check_kept, ones, register, register_bits};
 use second::code::{checked_sequence, free_bits, keeps, polynomial, remainder, transform};
+use second::limits::LARGEST_EXPONENT;
 use second::make::{bits, Misreading, MISREADINGS};
 use second::rng::Rng;
 
@@ -20,7 +21,7 @@ fn entry(n: usize, i: usize, j: usize) -> bool {
 #[test]
 fn transform_is_the_matrix_power() {
     let mut rng = Rng::new(1);
-    for n in 0..=7 {
+    for n in 0..=LARGEST_EXPONENT {
         let u = random(&mut rng, 1 << n);
         let x: Vec<bool> = (0..1 << n)
             .map(|j| (0..1 << n).filter(|&i| u[i] && entry(n, i, j)).count() % 2 == 1)
@@ -33,7 +34,7 @@ fn transform_is_the_matrix_power() {
 #[test]
 fn transform_splits_into_halves() {
     let mut rng = Rng::new(2);
-    for n in 1..=7 {
+    for n in 1..=LARGEST_EXPONENT {
         let u = random(&mut rng, 1 << n);
         let (left, right) = u.split_at(1 << (n - 1));
         let (v, w) = (transform(left), transform(right));
@@ -76,7 +77,7 @@ fn remainders_by_a_register() {
     let mut rng = Rng::new(3);
     let mut divided = 0;
     for r in [6, 11] {
-        for length in r + 1..=128 {
+        for length in r + 1..=1 << LARGEST_EXPONENT {
             let sequence = random(&mut rng, length);
             let rest = remainder(&sequence, r);
             let number = register(0, &sequence, r);
@@ -104,7 +105,7 @@ fn the_check_starts_from_ones() {
     for r in [6, 11] {
         // r ones go into an empty register and fill it
         assert_eq!(register(0, &vec![true; r], r), ones(r));
-        for k in r + 1..=128 {
+        for k in r + 1..=1 << LARGEST_EXPONENT {
             let bits = random(&mut rng, k);
             let in_front = [vec![true; r], bits.clone()].concat();
             assert_eq!(checked(&bits, r), remainder(&in_front, r));
@@ -155,17 +156,17 @@ fn order_of_d(r: usize) -> usize {
 #[test]
 fn zeros_in_front_are_seen() {
     let mut rng = Rng::new(6);
-    // D has order 63 where r = 6, so that 63 and 126 zeros alone go unseen, and 2047 where r = 11
-    for (r, order, unseen) in [(6, 63, &[63, 126][..]), (11, 2047, &[])] {
+    // where r = 6, D has order 63, so that a multiple of 63 zeros goes unseen; where r = 11, 2047
+    for (r, order) in [(6, 63), (11, 2047)] {
         assert_eq!(order_of_d(r), order);
-        for zeros in 1..=127 {
-            let k = rng.within(r + 1, 128);
+        for zeros in 1..1 << LARGEST_EXPONENT {
+            let k = rng.within(r + 1, 1 << LARGEST_EXPONENT);
             let bits = random(&mut rng, k);
             let longer = [vec![false; zeros], bits.clone()].concat();
             // without ones in front they change nothing
             assert_eq!(remainder(&longer, r), remainder(&bits, r));
             let [before, after] = [&bits, &longer].map(|bits| checked(bits, r));
-            assert_eq!(before == after, unseen.contains(&zeros), "{zeros} zeros");
+            assert_eq!(before == after, zeros % order == 0, "{zeros} zeros");
             // what they change is what a register of ones comes to in so many steps more
             let [short, long] = [k, k + zeros]
                 .map(|steps| register_bits(register(ones(r), &vec![false; steps], r), r));
@@ -179,13 +180,13 @@ fn zeros_in_front_are_seen() {
 #[test]
 fn no_misreading_is_the_check() {
     for r in [6, 11] {
-        for k in r + 1..=128 {
+        for k in r + 1..=1 << LARGEST_EXPONENT {
             let payload = vec![0; k - r];
             for misreading in MISREADINGS {
                 let bits = misreading.free_bits(&payload, r);
                 assert!(misreading.keeps(&bits, r));
                 // r ones behind are r ones in front where D^(K + r) = 1
-                let same = (r, misreading) == (6, Misreading::OnesBehind) && [57, 120].contains(&k);
+                let same = (r, misreading) == (6, Misreading::OnesBehind) && (k + r) % 63 == 0;
                 assert_eq!(check_kept(&bits, r), same, "{misreading:?}, K {k}");
                 assert_eq!(checked(&bits, r) == vec![false; r], same);
             }

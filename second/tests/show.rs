@@ -1,9 +1,10 @@
 // The lines that show prints for a person, letter by letter.
 
 mod common;
-use common::{numbers, sheet_e, symbols};
+use common::{numbers, record, sheet_e, symbols};
 use second::answer::Answer;
-use second::calls::{answer_record, answer_records};
+use second::calls::{answer_record, answer_records, ANSWER_BYTES};
+use second::limits::{HEADER_BYTES, LARGEST_CEILING, LARGEST_EXPONENT, RECORD_BYTES, STRIP_BYTES};
 use second::show::{said, show};
 
 /// The five counts, as they end every text.
@@ -30,18 +31,21 @@ fn verdicts() {
 
 #[test]
 fn refusals() {
-    for (answer, line) in [
+    let cases: [(Answer, &str); 11] = [
         (
             Answer::code(11),
-            "refused 11    the sheet is not 20 N bytes long for an N up to 128",
+            &format!(
+                "refused 11    the sheet is not {RECORD_BYTES} N bytes long for an N up to {}",
+                1 << LARGEST_EXPONENT
+            ),
         ),
         (
             Answer::at(12, 7),
             "refused 12    record 7 of the sheet breaks a rule",
         ),
         (
-            Answer::at(12, 127),
-            "refused 12    record 127 of the sheet breaks a rule",
+            Answer::at(12, 511),
+            "refused 12    record 511 of the sheet breaks a rule",
         ),
         (
             Answer::code(13),
@@ -50,20 +54,28 @@ fn refusals() {
         ),
         (Answer::code(14), "refused 14    the word is cut off"),
         (
-            Answer::at(15, 42),
-            "refused 15    symbol 42 is none of 0, 1 and 2",
+            Answer::at(15, 300),
+            "refused 15    symbol 300 is none of 0, 1 and 2",
         ),
         (Answer::code(16), "refused 16    the output is too short"),
-        (Answer::code(17), "refused 17    the ceiling is above 63"),
+        (
+            Answer::code(17),
+            &format!("refused 17    the ceiling is above {LARGEST_CEILING}"),
+        ),
         (
             Answer::counted(18, 64, 0, 0),
             "refused 18    g  64  more unknowns than the ceiling allows",
         ),
         (
+            Answer::counted(18, 512, 0, 0),
+            "refused 18    g 512  more unknowns than the ceiling allows",
+        ),
+        (
             Answer::code(19),
             "refused 19    the sheet has no free position: it holds nothing",
         ),
-    ] {
+    ];
+    for (answer, line) in cases {
         let record = answer_record(answer, &[], 1);
         assert_eq!(said(&record), line);
         assert_eq!(
@@ -75,7 +87,7 @@ fn refusals() {
 
 #[test]
 fn codes_of_no_answer() {
-    for code in (3..=10).chain(20..=255) {
+    for code in (3..=10).chain(20..=300).chain([256 * 14, 65535]) {
         let record = answer_record(numbers(code, 1, 2, 3, 4), &[0; 3], 1);
         assert_eq!(said(&record), format!("code {code} is no answer's"));
     }
@@ -89,22 +101,23 @@ fn codes_of_no_answer() {
 
 #[test]
 fn strips_end_at_the_first_255() {
-    let mut record = answer_record(Answer::counted(0, 10, 200, 0), &[], 1);
-    assert_eq!(said(&record), "unique        g  10  m 200  d   0  ");
-    record[8..14].copy_from_slice(&[0, 9, 10, 254, 255, 1]);
-    assert_eq!(said(&record), "unique        g  10  m 200  d   0  09??");
-    record[8..392].fill(1);
-    record[136..264].fill(0);
-    record[264..392].fill(2);
-    let [ones, zeros, twos] = ["1", "0", "2"].map(|digit| digit.repeat(128));
+    let numbers = [0, 0, 10, 300, 0];
+    let shown = |strips| said(&record(numbers, strips));
+    assert_eq!(shown(None), "unique        g  10  m 300  d   0  ");
+    let bytes = vec![0, 9, 10, 254, 255, 1];
     assert_eq!(
-        said(&record),
-        format!("unique        g  10  m 200  d   0  {ones}")
+        shown(Some([bytes, Vec::new(), Vec::new()])),
+        "unique        g  10  m 300  d   0  09??"
     );
-    record[0] = 1;
+    let whole = [1, 0, 2].map(|byte| vec![byte; STRIP_BYTES]);
+    let [ones, zeros, twos] = ["1", "0", "2"].map(|digit| digit.repeat(STRIP_BYTES));
     assert_eq!(
-        said(&record),
-        format!("ambiguous     g  10  m 200  d   0  settled {ones}  first {zeros}  last {twos}")
+        shown(Some(whole.clone())),
+        format!("unique        g  10  m 300  d   0  {ones}")
+    );
+    assert_eq!(
+        said(&record([1, 0, 511, 65535, 1000], Some(whole))),
+        format!("ambiguous     g 511  m 65535  d 1000  settled {ones}  first {zeros}  last {twos}")
     );
 }
 
@@ -112,7 +125,7 @@ fn strips_end_at_the_first_255() {
 fn empty_and_cut_off_inputs() {
     assert_eq!(show(&[]), counts(0, 0, 0, 0));
     let record = answer_record(Answer::code(14), &[], 1);
-    for rest in [1, 100, 391] {
+    for rest in [1, HEADER_BYTES, ANSWER_BYTES - 1] {
         let last = format!("the last {rest} bytes are no whole record\n");
         assert_eq!(show(&record[..rest]), counts(0, 0, 0, 0) + &last);
         let text = show(&[&record[..], &record[..rest]].concat());

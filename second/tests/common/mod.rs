@@ -1,11 +1,11 @@
-// What the tests share: sheet E, random sheets, calls on a marked buffer, the check by a register,
-// and empty folders.
+// What the tests share: sheet E, random sheets, calls on a marked buffer, answer records, the check
+// by a register, and empty folders.
 #![allow(dead_code)] // each test file uses a part of it
 
 use second::answer::Answer;
 use second::calls;
 use second::code::transform;
-use second::limits::RECORD_BYTES;
+use second::limits::{HEADER_BYTES, LARGEST_EXPONENT, RECORD_BYTES, STRIP_BYTES};
 use second::make::{good, STYLES};
 use second::rng::Rng;
 use second::sheet::Sheet;
@@ -37,6 +37,39 @@ pub fn numbers(code: u16, place: u16, g: u16, m: u16, d: u16) -> Answer {
         m,
         d,
     }
+}
+
+/// Every n with every check length that a good sheet of N = 2^n can have.
+pub fn choices() -> Vec<(usize, usize)> {
+    (0..=LARGEST_EXPONENT)
+        .flat_map(|n| [(n, 0), (n, 6), (n, 11)])
+        .filter(|&(n, r)| r < 1 << n)
+        .collect()
+}
+
+/// So many rounds, fewer for the largest N.
+pub fn rounds(n: usize, count: usize) -> usize {
+    if n < 8 {
+        count
+    } else {
+        count.div_ceil(4)
+    }
+}
+
+/// An answer record: five numbers low byte first, then three strips or none, padded with 255.
+pub fn record(numbers: [u16; 5], strips: Option<[Vec<u8>; 3]>) -> Vec<u8> {
+    let mut record: Vec<u8> = numbers.into_iter().flat_map(u16::to_le_bytes).collect();
+    record.resize(HEADER_BYTES, 0);
+    for mut strip in strips.unwrap_or_default() {
+        strip.resize(STRIP_BYTES, 255);
+        record.extend(strip);
+    }
+    record
+}
+
+/// A record of a code with the rest 0 and no strips.
+pub fn lone(code: u16) -> Vec<u8> {
+    record([code, 0, 0, 0, 0], None)
 }
 
 /// A good sheet of any style whose K is above r, as bytes and as read.
