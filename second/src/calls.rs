@@ -1,8 +1,10 @@
-// The five calls: each gives its five numbers and fills its output buffer, or leaves it as found.
-// Checks run in the order 11, 12, 19, 13, 14 .. 18 and the first that applies is given.
+// The six calls: each gives its five numbers and fills its output buffer, or leaves it as found.
+// Checks run in the order 11, 12, 19, 13, 14 .. 18 and the first that applies is given. The
+// converter uses the old 11 and 12, and 16.
 
 use crate::answer::Answer;
 use crate::code::{checked_sequence, filled, free_bits, keeps, remainder, transform, Agreeing};
+use crate::layout::{NEW, OLD};
 use crate::limits::{HEADER_BYTES, LARGEST_CEILING, LARGEST_EXPONENT, RECORD_BYTES, STRIP_BYTES};
 use crate::sheet::Sheet;
 use crate::{brute, dense, open};
@@ -202,4 +204,16 @@ pub fn stream(sheet: &[u8], choice: &[u8], input: &[u8], out: &mut [u8]) -> Answ
         }
         Err(refusal) => refusal,
     }
+}
+
+/// Writes an old sheet in today's layout, K = 0 too.
+pub fn convert(n: usize, old: &[u8], out: &mut [u8]) -> Answer {
+    converted(n, old, out).unwrap_or_else(|refusal| refusal)
+}
+
+fn converted(n: usize, old: &[u8], out: &mut [u8]) -> Result<Answer, Answer> {
+    let sheet = NEW.write(&OLD.read(n, old)?.records);
+    room(out, sheet.len())?;
+    out[..sheet.len()].copy_from_slice(&sheet);
+    Ok(Answer::code(0))
 }

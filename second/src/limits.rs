@@ -8,7 +8,7 @@ pub const LARGEST_EXPONENT: usize = 9;
 pub const MASK_BYTES: usize = 64;
 
 /// Bytes of a sheet record: kind, constant, two zeros, mask.
-pub const RECORD_BYTES: usize = 68;
+pub const RECORD_BYTES: usize = 4 + MASK_BYTES;
 
 /// The largest ceiling on unknowns.
 pub const LARGEST_CEILING: usize = 255;

@@ -5,6 +5,7 @@
 use second::calls;
 use second::files::{self, first_difference, shown, File};
 use second::lot::Lot;
+use second::pace::Pace;
 use second::programs;
 use second::protocol::{write_answer, Request};
 use second::requests;
@@ -20,8 +21,9 @@ const USAGE: &str = "usage:
   second vectors DIR            write DIR/stdin and DIR/stdout, the requests and their answers
   second compare DIR            make both again and compare them with the files byte by byte
   second answer                 answer the requests on standard input
-  second dense OP COUNT         write so many requests of the largest sheets with dense masks: OP 0
-                                checks the sheet, OP 1 encodes
+  second pace CALL N LOST COUNT LAYOUT
+                                write so many requests to measure by: CALL is check_sheet, encode or
+                                decode, of words that lost so many symbols; LAYOUT is new or old
   second stream DIR             answer the words on standard input, by DIR/sheet.bin and DIR/choice.bin
   second show                   print the answer records on standard input for a person
   second words DIR COUNT SEED   write so many damaged words of DIR/sheet.bin and DIR/choice.bin
@@ -139,10 +141,11 @@ fn answer() -> io::Result<()> {
 }
 
 /// Writes so many requests to measure by.
-fn dense(op: u16, count: &str) -> io::Result<()> {
+fn pace(pace: Result<Pace, String>, count: &str) -> io::Result<()> {
+    let pace = pace.map_err(io::Error::other)?;
     let count = count.parse().map_err(io::Error::other)?;
     let mut bytes = Vec::new();
-    for request in requests::dense(op, count) {
+    for request in pace.requests(count) {
         request.write(&mut bytes);
     }
     io::stdout().write_all(&bytes)
@@ -228,8 +231,9 @@ fn run(arguments: &[&str]) -> io::Result<ExitCode> {
         ["vectors", dir] => print!("{}", write_vectors(Path::new(dir))?),
         ["compare", dir] => return Ok(outcome(compare(Path::new(dir))?)),
         ["answer"] => answer()?,
-        ["dense", "0", count] => dense(0, count)?,
-        ["dense", "1", count] => dense(1, count)?,
+        ["pace", call, length, lost, count, layout] => {
+            pace(Pace::new(call, length, lost, layout), count)?
+        }
         ["stream", dir] => stream(Path::new(dir))?,
         ["show"] => io::stdout().write_all(show(&input()).as_bytes())?,
         ["words", dir, count, seed] => words(Path::new(dir), count, seed)?,

@@ -5,27 +5,14 @@
 use crate::answer::Answer;
 use crate::calls;
 use crate::code::{filled, remainder, transform, ERASED};
-use crate::limits::{MASK_BYTES, RECORD_BYTES};
+use crate::layout::{Layout, NEW};
 use crate::rng::Rng;
 use crate::sheet::{Record, Sheet};
 use crate::system::{unit, System};
 
 /// The bytes of a sheet.
 pub fn bytes(records: &[Record]) -> Vec<u8> {
-    let mut sheet = vec![0; RECORD_BYTES * records.len()];
-    for (i, record) in records.iter().enumerate() {
-        sheet[RECORD_BYTES * i] = u8::from(record.frozen);
-        sheet[RECORD_BYTES * i + 1] = u8::from(record.constant);
-        for &j in &record.named {
-            name(&mut sheet, i, j);
-        }
-    }
-    sheet
-}
-
-/// Sets bit j of the mask of record i.
-pub fn name(sheet: &mut [u8], i: usize, j: usize) {
-    sheet[RECORD_BYTES * i + 4 + j / 8] |= 1 << (j % 8);
+    NEW.write(records)
 }
 
 /// Frozen bits with random constants or all 0, with random masks or all empty.
@@ -57,12 +44,17 @@ pub const STYLES: [Style; 4] = [
 /// A sheet of N records that keep every rule, with K free positions, drawn at random: a good one
 /// where K is at least 1.
 pub fn good(rng: &mut Rng, length: usize, k: usize, style: Style) -> Vec<u8> {
+    bytes(&good_records(rng, length, k, style))
+}
+
+/// The records of such a sheet.
+pub fn good_records(rng: &mut Rng, length: usize, k: usize, style: Style) -> Vec<Record> {
     let order = rng.order(length);
     frozen_at(rng, length, &order[k..], style)
 }
 
-/// A sheet of N records that keep every rule, frozen at these positions.
-pub fn frozen_at(rng: &mut Rng, length: usize, positions: &[usize], style: Style) -> Vec<u8> {
+/// N records that keep every rule, frozen at these positions.
+pub fn frozen_at(rng: &mut Rng, length: usize, positions: &[usize], style: Style) -> Vec<Record> {
     let mut records = vec![Record::default(); length];
     for &i in positions {
         let sparse = rng.bit();
@@ -74,7 +66,7 @@ pub fn frozen_at(rng: &mut Rng, length: usize, positions: &[usize], style: Style
                 .collect(),
         };
     }
-    bytes(&records)
+    records
 }
 
 /// Every record that place i may hold.
@@ -151,7 +143,7 @@ pub fn word_of(sheet: &Sheet, free_bits: &[bool]) -> Vec<u8> {
 
 /// The word of the one u that keeps every rule of a sheet with no free position.
 pub fn only_word(n: usize, sheet: &[u8]) -> Vec<u8> {
-    let sheet = Sheet::of_any_k(n, sheet).expect("a sheet that keeps every rule");
+    let sheet = NEW.read(n, sheet).expect("a sheet that keeps every rule");
     word_of(&sheet, &[])
 }
 
@@ -259,19 +251,19 @@ pub const FAULTS: [Fault; 12] = [
 ];
 
 /// The faults that record i of N can have: a later position, or one past N, may not exist.
-pub fn faults_at(length: usize, i: usize) -> Vec<Fault> {
+pub fn faults_at(layout: Layout, length: usize, i: usize) -> Vec<Fault> {
     FAULTS
         .into_iter()
         .filter(|fault| match fault {
             Fault::NamesLater => i + 1 < length,
-            Fault::NamesBeyond => length < 8 * MASK_BYTES,
+            Fault::NamesBeyond => length < 8 * layout.mask_bytes,
             _ => true,
         })
         .collect()
 }
 
 /// Those of them that leave a frozen record frozen.
-pub fn frozen_faults_at(length: usize, i: usize) -> Vec<Fault> {
+pub fn frozen_faults_at(layout: Layout, length: usize, i: usize) -> Vec<Fault> {
     let others = [
         Fault::KindTwo,
         Fault::KindMost,
@@ -279,17 +271,17 @@ pub fn frozen_faults_at(length: usize, i: usize) -> Vec<Fault> {
         Fault::FreeConstant,
         Fault::FreeMask,
     ];
-    let mut faults = faults_at(length, i);
+    let mut faults = faults_at(layout, length, i);
     faults.retain(|fault| !others.contains(fault));
     faults
 }
 
 /// Puts a fault into record i of a sheet that keeps every rule.
-pub fn spoil(rng: &mut Rng, sheet: &mut [u8], i: usize, fault: Fault) {
-    let length = sheet.len() / RECORD_BYTES;
-    let names = 8 * MASK_BYTES;
-    let start = RECORD_BYTES * i;
-    let record = &mut sheet[start..start + RECORD_BYTES];
+pub fn spoil(rng: &mut Rng, layout: Layout, sheet: &mut [u8], i: usize, fault: Fault) {
+    let size = layout.record_bytes();
+    let length = sheet.len() / size;
+    let names = 8 * layout.mask_bytes;
+    let record = &mut sheet[size * i..][..size];
     match fault {
         Fault::FreeConstant | Fault::FreeMask => record.fill(0),
         Fault::NamesItself | Fault::NamesLater | Fault::NamesBeyond => record[0] = 1,
@@ -304,9 +296,9 @@ pub fn spoil(rng: &mut Rng, sheet: &mut [u8], i: usize, fault: Fault) {
         Fault::ByteTwo => record[2] = rng.within(1, 255) as u8,
         Fault::ByteThree => record[3] = rng.within(1, 255) as u8,
         Fault::FreeConstant => record[1] = 1,
-        Fault::FreeMask => name(sheet, i, rng.below(names)),
-        Fault::NamesItself => name(sheet, i, i),
-        Fault::NamesLater => name(sheet, i, rng.within(i + 1, length - 1)),
-        Fault::NamesBeyond => name(sheet, i, rng.within(length, names - 1)),
+        Fault::FreeMask => layout.name(sheet, i, rng.below(names)),
+        Fault::NamesItself => layout.name(sheet, i, i),
+        Fault::NamesLater => layout.name(sheet, i, rng.within(i + 1, length - 1)),
+        Fault::NamesBeyond => layout.name(sheet, i, rng.within(length, names - 1)),
     }
 }

@@ -4,6 +4,7 @@
 use crate::answer::Answer;
 use crate::calls::{answer_record, answer_records};
 use crate::files::File;
+use crate::layout::NEW;
 use crate::limits::{HEADER_BYTES, STRIP_BYTES};
 use crate::lot::Lot;
 use crate::make::{any_codeword, bits, damaged, good, spoil, Fault, STYLES};
@@ -88,7 +89,7 @@ fn refusals(rng: &mut Rng) -> Vec<u8> {
     }
     for place in [0, 9, 10, 99, 100, 127] {
         let mut bad_sheet = sheet.clone();
-        spoil(rng, &mut bad_sheet, place, Fault::ByteTwo);
+        spoil(rng, NEW, &mut bad_sheet, place, Fault::ByteTwo);
         records.extend(answer_records(&bad_sheet, &[0, 63], &word));
         let mut bad_word = word.clone();
         bad_word[place] = 3;

@@ -14,8 +14,8 @@ pub const OUTPUT_ROOM: usize = 140_000;
 /// What every byte of the output buffer holds before the call.
 pub const BEFORE: u8 = 165;
 
-/// The ops: check_sheet, encode, decode, read_back, stream.
-pub const OPS: u16 = 5;
+/// The ops: check_sheet, encode, decode, read_back, stream, convert.
+pub const OPS: u16 = 6;
 
 #[derive(Clone, Debug, Default, PartialEq, Eq)]
 pub struct Request {
@@ -23,7 +23,7 @@ pub struct Request {
     pub n: u16,
     pub r: u16,
     pub ceiling: u16,
-    /// The sheet.
+    /// The sheet, today's or, for convert, an old one.
     pub a: Vec<u8>,
     /// The payload, word or input.
     pub b: Vec<u8>,
@@ -99,6 +99,7 @@ impl Request {
             2 => calls::decode(n, &self.a, r, ceiling, &self.b, &mut out),
             3 => calls::read_back(n, &self.a, r, &self.b, &mut out),
             4 => calls::stream(&self.a, &self.c, &self.b, &mut out),
+            5 => calls::convert(n, &self.a, &mut out),
             op => panic!("no op {op}"),
         };
         (answer, out)

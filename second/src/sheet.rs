@@ -1,10 +1,10 @@
 // The code sheet: N records read from their bytes and held to the rules of the sheet,
 // with the refusals, in this order, 11 (length), 12 (bad record), 19 (K = 0) and 13 (check length,
-// or K too small for it).
+// or K too small for it). 11 and 12 are the layout's.
 
 use crate::answer::Answer;
 use crate::code::polynomial;
-use crate::limits::{LARGEST_EXPONENT, RECORD_BYTES};
+use crate::layout::NEW;
 
 /// Record i: u_i is free, or frozen by its rule.
 #[derive(Clone, Debug, Default, PartialEq, Eq)]
@@ -22,7 +22,7 @@ pub struct Sheet {
 
 impl Record {
     /// Record i from its bytes, or nothing where it breaks a rule.
-    fn read(i: usize, bytes: &[u8]) -> Option<Record> {
+    pub fn read(i: usize, bytes: &[u8]) -> Option<Record> {
         let (head, mask) = bytes.split_at(4);
         let record = Record {
             frozen: head[0] == 1,
@@ -44,7 +44,7 @@ impl Record {
 impl Sheet {
     /// The sheet of N = 2^n records with its check length r, or the first refusal of 11, 12, 19, 13.
     pub fn read(n: usize, bytes: &[u8], r: usize) -> Result<Sheet, Answer> {
-        let sheet = Sheet::of_any_k(n, bytes)?;
+        let sheet = NEW.read(n, bytes)?;
         if sheet.k() == 0 {
             return Err(Answer::code(19));
         }
@@ -52,19 +52,6 @@ impl Sheet {
             return Err(Answer::code(13));
         }
         Ok(sheet)
-    }
-
-    /// The sheet of N = 2^n records that keep every rule, K = 0 too, or the first refusal of 11, 12.
-    pub fn of_any_k(n: usize, bytes: &[u8]) -> Result<Sheet, Answer> {
-        if n > LARGEST_EXPONENT || bytes.len() != RECORD_BYTES << n {
-            return Err(Answer::code(11));
-        }
-        let records = bytes
-            .chunks(RECORD_BYTES)
-            .enumerate()
-            .map(|(i, record)| Record::read(i, record).ok_or(Answer::at(12, i)))
-            .collect::<Result<Vec<Record>, Answer>>()?;
-        Ok(Sheet { records })
     }
 
     /// N.

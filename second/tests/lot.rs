@@ -1,11 +1,12 @@
 // The sample lot, words drawn in any number, and what the programs are held to.
 
 mod common;
-use common::{check_kept, folder, u_of, BEFORE};
+use common::{check_kept, choices, folder, numbers_of, u_of, BEFORE};
 use second::answer::Answer;
 use second::calls::{self, answer_records, ANSWER_BYTES};
 use second::code::free_bits;
 use second::files::{compare, write, File};
+use second::limits::{HEADER_BYTES, RECORD_BYTES};
 use second::lot::Lot;
 use second::make::bits;
 use second::programs;
@@ -15,10 +16,13 @@ use second::words::Codewords;
 use std::collections::{BTreeMap, BTreeSet};
 
 /// Code, g, m and d of each record.
-fn verdicts(records: &[u8]) -> Vec<[u8; 4]> {
+fn verdicts(records: &[u8]) -> Vec<[u16; 4]> {
     assert!(records.len().is_multiple_of(ANSWER_BYTES));
-    let numbers = |record: &[u8]| [0, 2, 3, 4].map(|at| record[at]);
-    records.chunks(ANSWER_BYTES).map(numbers).collect()
+    let counts = |record: &[u8]| {
+        let [code, _, g, m, d] = numbers_of(record);
+        [code, g, m, d]
+    };
+    records.chunks(ANSWER_BYTES).map(counts).collect()
 }
 
 fn lost(word: &[u8]) -> Vec<usize> {

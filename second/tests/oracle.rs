@@ -4,6 +4,7 @@
 mod common;
 use common::{any_sheet, check_kept, choices, decode, rounds};
 use second::answer::Answer;
+use second::layout::NEW;
 use second::limits::{LARGEST_CEILING, LARGEST_EXPONENT};
 use second::make::{any_codeword, bits, bytes, damaged, every_sheet, every_word};
 use second::rng::Rng;
@@ -20,7 +21,7 @@ fn every_sheet_and_word_up_to_four() {
         for records in sheets {
             let sheet = &Sheet { records };
             let bytes = bytes(&sheet.records);
-            assert_eq!(Sheet::of_any_k(n, &bytes).as_ref(), Ok(sheet));
+            assert_eq!(NEW.read(n, &bytes).as_ref(), Ok(sheet));
             // K = 0 is refused; its system is held to the trial all the same
             let read = Sheet::read(n, &bytes, 0);
             if sheet.k() == 0 {

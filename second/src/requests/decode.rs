@@ -1,15 +1,16 @@
 // Op 2, decode: the refusals with the ceiling at its edges, and words on and off the code with
-// losses from none to all. Ceilings are placed by the count g of the open free positions.
+// losses from none to all. Ceilings are placed by the count g of the open free positions. Of long
+// codes the words are those of each verdict at the borders of g, and a few of the other kinds.
 
 use super::faults;
 use super::parts::{
-    checked_codes, choices, every_none_free, first_middle_last, none_free_words, room, suited,
-    symbols, telling_words, Code, CHECKS,
+    checked_codes, choices, every_none_free, exponents, few_choices, few_telling_words,
+    first_middle_last, none_free_words, room, suited, symbols, Code, CHECKS, LONG,
 };
+use super::unknowns::{self, count, lost_at, lost_to, Case};
 use crate::code::ERASED;
 use crate::limits::{LARGEST_CEILING, LARGEST_EXPONENT};
 use crate::make::{bits, bytes, damaged, every_word, STYLES};
-use crate::open;
 use crate::protocol::Request;
 use crate::rng::Rng;
 use crate::sheet::Record;
@@ -18,9 +19,11 @@ pub fn all() -> Vec<Request> {
     [
         bench(),
         faults::all(200, 2, good),
+        faults::long_sets(Rng::new(223), 2, all_lost),
         ceiling_sets(),
         ceilings(),
-        largest_ceilings(),
+        unknowns_at_borders(),
+        too_many_unknowns(),
         full_codes(),
         small_codes(),
         no_free_position(),
@@ -29,6 +32,7 @@ pub fn all() -> Vec<Request> {
         any_words(),
         ones_in_front(),
         all_zero(),
+        by_single_bits(),
     ]
     .concat()
 }
@@ -44,15 +48,17 @@ fn good(rng: &mut Rng, code: &Code) -> Request {
     decode(code, word, LARGEST_CEILING, 3 * code.length())
 }
 
+/// All symbols lost under a ceiling above the largest, its room exact.
+fn all_lost(rng: &mut Rng, code: &Code) -> Request {
+    let ceiling = LARGEST_CEILING + rng.pick(&[1, 1, 2, 257]);
+    let word = vec![ERASED; code.length()];
+    decode(code, word, ceiling, 3 * code.length())
+}
+
 /// Decodes a word with any room that is enough.
 fn decode_in_room(rng: &mut Rng, code: &Code, word: Vec<u8>, ceiling: usize) -> Request {
     let o = room(rng, 3 * code.length());
     decode(code, word, ceiling, o)
-}
-
-/// g of a word.
-fn unknowns(code: &Code, word: &[u8]) -> usize {
-    open::counts(&code.read(), code.r, &open::open_positions(word)).0
 }
 
 /// The sheet that freezes these positions to these constants.
@@ -90,58 +96,39 @@ fn bench() -> Vec<Request> {
         .collect()
 }
 
-/// Each of the sets of faults together with a ceiling below g (18), above the largest (17) or, where
-/// N allows it, both. With 19 there is no g above a ceiling.
+/// Sets of faults together with a ceiling below g (18) or above the largest (17): of short codes all
+/// sets, and from 16 symbols on those of one fault or none; of long codes no fault with 18. With 19
+/// there is no g above a ceiling.
 fn ceiling_sets() -> Vec<Request> {
     let mut rng = Rng::new(210);
     let mut list = Vec::new();
     for n in 0..=LARGEST_EXPONENT {
-        let rounds = if n < 3 { 3 } else { 1 };
-        for set in (0..rounds).flat_map(|_| faults::sets()) {
+        let rounds = if n < 2 { 3 } else { 1 };
+        let sets = match n {
+            0..4 => faults::sets(n),
+            4..=LONG => faults::singles(),
+            _ => vec![Vec::new()],
+        };
+        for set in (0..rounds).flat_map(|_| sets.clone()) {
             let r = rng.pick(&CHECKS);
             let code = Code::any(&mut rng, n, suited(n, r));
             let lost = vec![ERASED; 1 << n];
-            let g = unknowns(&code, &lost);
+            let g = count(&code, &lost);
             let mut low = decode(&code, lost, rng.below(g.min(LARGEST_CEILING + 1)), 3 << n);
             if !set.contains(&19) {
                 list.push(faults::put(&mut rng, low.clone(), &set, 2));
             }
             let above = LARGEST_CEILING as u16 + 1;
-            low.ceiling = rng.pick(&[above, above, above + 1, 255, 256, 65535]);
+            low.ceiling = rng.pick(&[above, above, above + 1, 512, 65535]);
             list.push(faults::put(&mut rng, low, &set, 2));
         }
     }
     list
 }
 
-/// The word with the losses of the first so many places of an order.
-fn lost_at(word: &[u8], order: &[usize]) -> Vec<u8> {
-    let mut word = word.to_vec();
-    for &place in order {
-        word[place] = ERASED;
-    }
-    word
-}
-
-/// The word with just as many losses, in any order, as give this g; all if none does.
-/// One loss more never takes from g.
-fn lost_to(rng: &mut Rng, code: &Code, word: &[u8], g: usize) -> Vec<u8> {
-    let order = rng.order(word.len());
-    let [mut low, mut high] = [0, word.len()];
-    while low < high {
-        let middle = (low + high) / 2;
-        if unknowns(code, &lost_at(word, &order[..middle])) < g {
-            low = middle + 1;
-        } else {
-            high = middle;
-        }
-    }
-    lost_at(word, &order[..low])
-}
-
 /// A word under the ceilings g - 1, g, g + 1, 0, the largest, one above it and 65535, each once.
 fn at_its_ceilings(rng: &mut Rng, code: &Code, word: &[u8]) -> Vec<Request> {
-    let g = unknowns(code, word);
+    let g = count(code, word);
     let most = LARGEST_CEILING;
     let mut ceilings = vec![g.max(1) - 1, g, g + 1, 0, most, most + 1, 65535];
     ceilings.sort();
@@ -155,8 +142,8 @@ fn at_its_ceilings(rng: &mut Rng, code: &Code, word: &[u8]) -> Vec<Request> {
 fn ceilings() -> Vec<Request> {
     let mut rng = Rng::new(211);
     let mut list = Vec::new();
-    for (n, r) in choices() {
-        for round in 0..6 {
+    for (n, r) in choices().into_iter().filter(|&(n, _)| n < LONG) {
+        for round in (0..6).step_by([1, 1, 1, 2, 3, 6, 6][n]) {
             let code = Code::any(&mut rng, n, r);
             let mut word = code.codeword(&mut rng);
             if round % 3 == 2 {
@@ -169,34 +156,72 @@ fn ceilings() -> Vec<Request> {
     list
 }
 
-/// g about the largest ceiling, in the two largest N.
-fn largest_ceilings() -> Vec<Request> {
+/// Words of each verdict at the borders of g, under the ceiling g or the largest; one in six also
+/// under g - 1 or above the largest. Every check length next to a border in the shortest of the long
+/// codes; else one for each g and verdict; far from a border fewer in the others.
+fn unknowns_at_borders() -> Vec<Request> {
     let mut rng = Rng::new(212);
     let mut list = Vec::new();
-    for n in [LARGEST_EXPONENT - 1, LARGEST_EXPONENT] {
-        for g in LARGEST_CEILING - 1..=(LARGEST_CEILING + 3).min(1 << n) {
+    for n in LONG..=LARGEST_EXPONENT {
+        for (turn, case) in unknowns::every_case(n).into_iter().enumerate() {
+            let Case { r, g, verdict } = case;
+            let near = [0, 63].contains(&(g % 64));
+            let turned = CHECKS[(g + usize::from(verdict)) % 3] == r;
+            let kept = match n {
+                LONG => turned || near,
+                _ => turned && (near || (g + n) % 3 == usize::from(verdict)),
+            };
+            if !kept {
+                continue;
+            }
+            let (code, word) = unknowns::word(&mut rng, n, r, g, verdict, turn);
+            let mut ceilings = vec![rng.pick(&[g, LARGEST_CEILING])];
+            match list.len() % 12 {
+                0 => ceilings.push(g.max(1) - 1),
+                6 => ceilings.push(LARGEST_CEILING + 1),
+                _ => {}
+            }
+            for ceiling in ceilings {
+                list.push(decode_in_room(&mut rng, &code, word.clone(), ceiling));
+            }
+        }
+    }
+    list
+}
+
+/// g above the largest ceiling, and so above each.
+fn too_many_unknowns() -> Vec<Request> {
+    let mut rng = Rng::new(221);
+    let mut list = Vec::new();
+    for n in LONG + 1..=LARGEST_EXPONENT {
+        for g in unknowns::too_many(n) {
+            let r = rng.pick(&CHECKS);
             let k = rng.within(g, 1 << n);
             let style = rng.pick(&STYLES);
-            let r = rng.pick(&CHECKS);
             let code = Code::new(&mut rng, n, r, k, style);
             let word = code.codeword(&mut rng);
             let word = lost_to(&mut rng, &code, &word, g);
-            list.extend(at_its_ceilings(&mut rng, &code, &word));
+            list.push(decode_in_room(&mut rng, &code, word, LARGEST_CEILING));
         }
     }
     list
 }
 
 /// All positions free, and the fewest that r allows; all symbols lost, none, the left and the right
-/// half.
+/// half; of long codes the left half of the one, and all of the other.
 fn full_codes() -> Vec<Request> {
     let mut rng = Rng::new(217);
     let mut list = Vec::new();
-    for (n, r) in choices() {
+    for (n, r) in few_choices(&mut rng) {
         let length = 1 << n;
         for k in [length, r + 1] {
             let code = Code::new(&mut rng, n, r, k, STYLES[3]);
-            for lost in [0..length, 0..0, 0..length / 2, length / 2..length] {
+            let mut losses = vec![0..length, 0..length / 2, 0..0, length / 2..length];
+            if n >= LONG {
+                losses.rotate_left(usize::from(k == length));
+                losses.truncate(1);
+            }
+            for lost in losses {
                 let word = code.codeword(&mut rng);
                 let word = lost_at(&word, &lost.collect::<Vec<_>>());
                 list.push(decode_in_room(&mut rng, &code, word, LARGEST_CEILING));
@@ -219,7 +244,7 @@ fn small_codes() -> Vec<Request> {
 }
 
 /// No free position: refused, whatever the word; every word of one and of two symbols, and for
-/// every N the word that keeps every rule, whole, damaged and all lost, and another.
+/// every short N the word that keeps every rule, whole, damaged and all lost, and another.
 fn no_free_position() -> Vec<Request> {
     let mut rng = Rng::new(218);
     let mut list = Vec::new();
@@ -229,7 +254,7 @@ fn no_free_position() -> Vec<Request> {
             list.push(decode_in_room(&mut rng, &code, word, LARGEST_CEILING));
         }
     }
-    for n in 0..=LARGEST_EXPONENT {
+    for n in 0..LONG {
         let (code, word, other) = none_free_words(&mut rng, n);
         for losses in [0, 4, 8] {
             let word = damaged(&mut rng, &word, losses);
@@ -242,7 +267,8 @@ fn no_free_position() -> Vec<Request> {
     list
 }
 
-/// Every pattern of losses of eight symbols, on a codeword and on a word that may be none.
+/// Every pattern of losses of eight symbols, on a codeword and, without a check, on a word that may be
+/// none.
 fn every_loss() -> Vec<Request> {
     let mut rng = Rng::new(214);
     let mut list = Vec::new();
@@ -250,7 +276,8 @@ fn every_loss() -> Vec<Request> {
         for lost in every_word(8, 2) {
             let code = Code::any(&mut rng, 3, r);
             let places: Vec<usize> = (0..8).filter(|&j| lost[j] == 1).collect();
-            for word in [code.codeword(&mut rng), bits(&mut rng, 8)] {
+            let both = [code.codeword(&mut rng), bits(&mut rng, 8)];
+            for word in both.into_iter().take(if r == 0 { 2 } else { 1 }) {
                 let word = lost_at(&word, &places);
                 list.push(decode_in_room(&mut rng, &code, word, LARGEST_CEILING));
             }
@@ -259,23 +286,25 @@ fn every_loss() -> Vec<Request> {
     list
 }
 
-/// Codewords that lost a run of symbols: every run of eight and of sixteen symbols, and runs
-/// from the first, the middle and the last place on of the others.
+/// Codewords that lost a run of symbols: every run of eight, and without a check of sixteen symbols
+/// from every second place on; runs from the first, the middle and the last place on of others, and
+/// one of each long code.
 fn every_burst() -> Vec<Request> {
     let mut rng = Rng::new(215);
     let mut list = Vec::new();
-    for (n, r) in choices().into_iter().filter(|&(n, _)| n > 2) {
-        let starts = if n < 5 {
-            (0..1 << n).collect()
-        } else {
-            first_middle_last(1 << n)
+    for (n, r) in few_choices(&mut rng).into_iter().filter(|&(n, _)| n > 2) {
+        let every = n == 3 || (n, r) == (4, 0);
+        let starts = match n {
+            _ if every => (0..1 << n).step_by(n - 2).collect(),
+            0..LONG => first_middle_last(1 << n),
+            _ => vec![1 << (n - 1)],
         };
         for start in starts {
             let longest = (1 << n) - start;
-            let lengths = if n < 5 {
-                (1..=longest).collect()
-            } else {
-                first_middle_last(longest)
+            let lengths = match n {
+                _ if every => (1..=longest).collect(),
+                0..LONG => first_middle_last(longest),
+                _ => vec![longest - 1],
             };
             for length in lengths {
                 let code = Code::any(&mut rng, n, r);
@@ -347,7 +376,7 @@ fn any_losses(rng: &mut Rng, code: &Code, word: &[u8]) -> Vec<u8> {
 
 /// Mostly the largest ceiling, else one about g or any.
 fn any_ceiling(rng: &mut Rng, code: &Code, word: &[u8]) -> usize {
-    let g = unknowns(code, word);
+    let g = count(code, word);
     match rng.below(10) {
         0 => g.max(1) - 1,
         1 => g,
@@ -362,7 +391,7 @@ fn any_ceiling(rng: &mut Rng, code: &Code, word: &[u8]) -> usize {
 fn any_words() -> Vec<Request> {
     let mut rng = Rng::new(216);
     let mut list = Vec::new();
-    let counts = [30, 300, 900, 2700, 3700, 2200, 1500, 1500];
+    let counts = [30, 300, 400, 400, 180, 90, 50, 12, 0, 0];
     for (n, count) in counts.into_iter().enumerate() {
         for round in 0..count {
             let code = any_code(&mut rng, n, suited(n, CHECKS[round % 3]));
@@ -375,14 +404,16 @@ fn any_words() -> Vec<Request> {
     list
 }
 
-/// Words by which the ones in front of the free bits are seen: whole, and with some losses.
+/// Words by which the ones in front of the free bits are seen: with some losses and, of short codes,
+/// whole.
 fn ones_in_front() -> Vec<Request> {
     let mut rng = Rng::new(219);
     let mut list = Vec::new();
     for code in checked_codes(&mut rng) {
-        for word in telling_words(&mut rng, &code) {
+        for word in few_telling_words(&mut rng, &code) {
             let losses = rng.within(1, 3);
-            for word in [damaged(&mut rng, &word, losses), word] {
+            let both = [damaged(&mut rng, &word, losses), word];
+            for word in both.into_iter().take(if code.n < LONG { 2 } else { 1 }) {
                 list.push(decode_in_room(&mut rng, &code, word, LARGEST_CEILING));
             }
         }
@@ -394,7 +425,7 @@ fn ones_in_front() -> Vec<Request> {
 fn all_zero() -> Vec<Request> {
     let mut rng = Rng::new(220);
     let mut list = Vec::new();
-    for n in 0..=LARGEST_EXPONENT {
+    for n in exponents() {
         let k = rng.within(1, 1 << n);
         let code = Code::new(&mut rng, n, 0, k, STYLES[2]);
         let word = vec![0; 1 << n];
@@ -403,4 +434,15 @@ fn all_zero() -> Vec<Request> {
         }
     }
     list
+}
+
+/// Words whose free bits are 1, whole: every bit of the longest mask decides, both ways.
+fn by_single_bits() -> Vec<Request> {
+    let mut rng = Rng::new(222);
+    (Code::by_single_bits(LARGEST_EXPONENT)[..4].iter())
+        .map(|code| {
+            let word = code.codeword_of(&vec![1; code.payload()]);
+            decode_in_room(&mut rng, code, word, 0)
+        })
+        .collect()
 }

@@ -1,10 +1,11 @@
 // Op 1, encode: the refusals, and payloads for every N, check length and kind of sheet; masks in
-// which one bit decides; the empty payload where no position is free or the check leaves none;
+// which one bit decides, every bit of the longest; the empty payload where no position is free or the check leaves none;
 // payloads that begin with zeros.
 
 use super::faults;
 use super::parts::{
-    checked_codes, choices, every_none_free, first_middle_last, room, symbols, zero_payloads, Code,
+    checked_codes, choices, every_none_free, few_choices, first_middle_last, room, symbols,
+    zero_payloads, Code, CHECKS, LONG,
 };
 use crate::limits::LARGEST_EXPONENT;
 use crate::make::{bits, bytes, every_word, STYLES};
@@ -16,9 +17,11 @@ pub fn all() -> Vec<Request> {
     [
         bench(),
         faults::all(100, 1, good),
+        faults::long_sets(Rng::new(119), 1, good),
         every_style(),
         dense_masks(),
         single_names(),
+        by_single_bits(),
         single_bits(),
         small_codes(),
         no_payload(),
@@ -52,16 +55,22 @@ fn bench() -> Vec<Request> {
         .to_vec()
 }
 
-/// Every style with the smallest, the largest and any K.
+/// Every style with any K and, of short codes, the smallest and the largest; long codes with every
+/// check length, each of another style.
 fn every_style() -> Vec<Request> {
     let mut rng = Rng::new(111);
     let mut list = Vec::new();
-    for (n, r) in choices() {
-        for style in STYLES {
-            for round in 0..10 {
+    let between = CHECKS.map(|r| (LONG + 1, r));
+    for (n, r) in choices().into_iter().chain(between) {
+        let styles = match n {
+            0..LONG => &STYLES[..],
+            _ => &STYLES[(n + r) % 4..][..1],
+        };
+        for &style in styles {
+            for round in 10 - [10, 10, 10, 8, 6, 3, 1].get(n).unwrap_or(&1)..10 {
                 let k = match round {
-                    0 => r + 1,
-                    1 => 1 << n,
+                    8 => r + 1,
+                    9 if n < LONG => 1 << n,
                     _ => rng.within(r + 1, 1 << n),
                 };
                 let code = Code::new(&mut rng, n, r, k, style);
@@ -73,12 +82,12 @@ fn every_style() -> Vec<Request> {
     list
 }
 
-/// Every frozen bit names all bits before it; any payload, all 0 and all 1.
+/// Every frozen bit names all bits before it; any payload and, of short codes, all 0 and all 1.
 fn dense_masks() -> Vec<Request> {
     let mut rng = Rng::new(112);
     let mut list = Vec::new();
-    for (n, r) in choices() {
-        for round in 0..6 {
+    for (n, r) in few_choices(&mut rng) {
+        for round in if n < LONG { 0..3 } else { 2..3 } {
             let code = Code::dense(&mut rng, n, r);
             let payload = match round {
                 0 => vec![0; code.payload()],
@@ -91,12 +100,13 @@ fn dense_masks() -> Vec<Request> {
     list
 }
 
-/// Only the last bit of the largest N is frozen, and names one bit or all before it but one, which
-/// is the payload's only 1: every bit of a mask decides, both ways.
+/// Only the last of 16 bits is frozen, and names one bit or all before it but one, which is the
+/// payload's only 1: every bit of a mask decides, both ways.
 fn single_names() -> Vec<Request> {
     let mut rng = Rng::new(117);
     let mut list = Vec::new();
-    let last = (1 << LARGEST_EXPONENT) - 1;
+    let n = 4;
+    let last = (1 << n) - 1;
     for j in 0..last {
         for named in [vec![j], (0..last).filter(|&i| i != j).collect()] {
             let mut records = vec![Record::default(); last];
@@ -105,11 +115,8 @@ fn single_names() -> Vec<Request> {
                 constant: false,
                 named,
             });
-            let code = Code {
-                n: LARGEST_EXPONENT,
-                r: 0,
-                sheet: bytes(&records),
-            };
+            let sheet = bytes(&records);
+            let code = Code { n, r: 0, sheet };
             let mut payload = vec![0; last];
             payload[j] = 1;
             list.push(encode_in_room(&mut rng, &code, payload));
@@ -118,28 +125,25 @@ fn single_names() -> Vec<Request> {
     list
 }
 
-/// So many payloads of sheets with the largest N whose frozen bits name all bits before them.
-pub fn dense(count: usize) -> Vec<Request> {
+/// Every free bit is 1: every bit of the longest mask decides, both ways.
+fn by_single_bits() -> Vec<Request> {
     let mut rng = Rng::new(118);
-    (0..count)
-        .map(|_| {
-            let code = Code::dense(&mut rng, LARGEST_EXPONENT, 0);
-            good(&mut rng, &code)
-        })
+    (Code::by_single_bits(LARGEST_EXPONENT).iter())
+        .map(|code| encode_in_room(&mut rng, code, vec![1; code.payload()]))
         .collect()
 }
 
-/// Payloads with a single 1, at every place of a short one and at a few of a long one.
+/// Payloads with a single 1, at every place of a short one and at a few of a longer one.
 fn single_bits() -> Vec<Request> {
     let mut rng = Rng::new(113);
     let mut list = Vec::new();
-    for (n, r) in choices() {
+    for (n, r) in few_choices(&mut rng) {
         let code = Code::any(&mut rng, n, r);
         let length = code.payload();
-        let places = if n < 6 {
-            (0..length).collect()
-        } else {
-            first_middle_last(length)
+        let places = match n {
+            0..5 => (0..length).collect(),
+            5..LONG => first_middle_last(length),
+            _ => Vec::new(),
         };
         for place in places {
             let mut payload = vec![0; length];
@@ -162,7 +166,7 @@ fn small_codes() -> Vec<Request> {
     list
 }
 
-/// No free position, and K = r under a check: refused, the empty payload too.
+/// No free position, and K = r of short codes under a check: refused, the empty payload too.
 fn no_payload() -> Vec<Request> {
     let mut rng = Rng::new(115);
     let mut list = Vec::new();
@@ -171,7 +175,7 @@ fn no_payload() -> Vec<Request> {
         list.push(encode_in_room(&mut rng, &code, Vec::new()));
         list.push(encode_in_room(&mut rng, &code, vec![0]));
     }
-    for n in 0..=LARGEST_EXPONENT {
+    for n in 0..LONG {
         for r in [6, 11].into_iter().filter(|&r| r <= 1 << n) {
             let mut code = Code::new(&mut rng, n, 0, r, STYLES[3]);
             code.r = r;
@@ -181,12 +185,17 @@ fn no_payload() -> Vec<Request> {
     list
 }
 
-/// Payloads that begin with zeros, under a check.
+/// Payloads that begin with zeros, under a check; of long codes one each.
 fn leading_zeros() -> Vec<Request> {
     let mut rng = Rng::new(116);
     let mut list = Vec::new();
     for code in checked_codes(&mut rng) {
-        for payload in zero_payloads(&mut rng, code.payload()) {
+        let mut payloads = zero_payloads(&mut rng, code.payload());
+        if code.n >= LONG {
+            payloads.rotate_left(code.n % 2);
+            payloads.truncate(1);
+        }
+        for payload in payloads {
             list.push(encode_in_room(&mut rng, &code, payload));
         }
     }

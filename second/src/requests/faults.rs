@@ -1,15 +1,17 @@
 // The refusals 11, 12, 19, 13, 14, 15 and 16 of a call: good requests with sets of these faults put
-// in, so that their order is seen, and each fault alone at its border.
+// in, so that their order is seen, and each fault alone at its border. Of the long codes fewer sets,
+// and of each border what is next to it.
 
 use super::parts::{
-    any_checks, choices, first_middle_last, none_free, spoil_frozen, spoil_somehow, suited, Code,
-    CHECKS, WRONG_CHECKS,
+    any_checks, exponents, few_choices, first_middle_last, none_free, old_sheets, spoil_frozen,
+    spoil_somehow, suited, Code, CHECKS, LONG, WRONG_CHECKS,
 };
 use crate::answer::{OF_CODEC, ORDER};
 use crate::limits::{LARGEST_EXPONENT, RECORD_BYTES};
 use crate::make::STYLES;
 use crate::protocol::Request;
 use crate::rng::Rng;
+use std::ops::Range;
 
 /// Makes a good request of a code: b is not empty and the room is exact.
 pub type Maker = fn(&mut Rng, &Code) -> Request;
@@ -18,7 +20,7 @@ pub type Maker = fn(&mut Rng, &Code) -> Request;
 pub fn all(seed: u64, largest: u8, make: Maker) -> Vec<Request> {
     let rng = |list| Rng::new(seed + list);
     [
-        some_sets(rng(0), largest, make),
+        some_sets(rng(0), 0..LONG, largest, make),
         sheet_lengths(rng(1), make),
         bad_records(rng(2), make),
         wrong_checks(rng(3), make),
@@ -27,13 +29,18 @@ pub fn all(seed: u64, largest: u8, make: Maker) -> Vec<Request> {
         symbols(rng(6), largest, make),
         rooms(rng(7), make),
         no_free_position(rng(8), make),
+        old_layout(rng(9), make),
     ]
     .concat()
 }
 
-/// Sets of faults, each by the codes of their refusals: every set of those of encoding and read-back
-/// without 19, and 19 with up to two others.
-pub fn sets() -> Vec<Vec<u16>> {
+/// Sets of faults, each by the codes of their refusals. Of short codes every set of those of encoding
+/// and read-back without 19, and 19 with up to two others; of 16 and 32 symbols no fault, each
+/// alone, with each later one and with all later ones; of longer codes each with all later ones.
+pub fn sets(n: usize) -> Vec<Vec<u16>> {
+    if n >= 4 {
+        return chains(n < 6);
+    }
     let every = (0..1usize << OF_CODEC).map(|marks| -> Vec<u16> {
         let marked = ORDER.into_iter().enumerate();
         let marked = marked.filter(|(at, _)| marks >> at & 1 == 1);
@@ -42,6 +49,25 @@ pub fn sets() -> Vec<Vec<u16>> {
     every
         .filter(|set| !set.contains(&19) || set.len() <= 3)
         .collect()
+}
+
+/// No fault, and each alone.
+pub fn singles() -> Vec<Vec<u16>> {
+    let alone = ORDER[..OF_CODEC].iter().map(|&code| vec![code]);
+    [Vec::new()].into_iter().chain(alone).collect()
+}
+
+/// Each fault with all later ones; and no fault, each alone and with each later one.
+fn chains(pairs: bool) -> Vec<Vec<u16>> {
+    let codes = &ORDER[..OF_CODEC];
+    let mut list: Vec<Vec<u16>> = (0..OF_CODEC).map(|at| codes[at..].to_vec()).collect();
+    if pairs {
+        list.extend(singles());
+        for (at, &first) in codes.iter().enumerate() {
+            list.extend(codes[at + 1..].iter().map(|&later| vec![first, later]));
+        }
+    }
+    list
 }
 
 /// Puts the faults of a set into a good request. With 19 no payload and no room for it is right,
@@ -131,11 +157,16 @@ fn wrong_length(rng: &mut Rng, request: &mut Request) {
     }
 }
 
+/// A request for each of the sets of long codes.
+pub fn long_sets(rng: Rng, largest: u8, make: Maker) -> Vec<Request> {
+    some_sets(rng, LONG..LARGEST_EXPONENT + 1, largest, make)
+}
+
 /// A request for each of the sets.
-fn some_sets(mut rng: Rng, largest: u8, make: Maker) -> Vec<Request> {
+fn some_sets(mut rng: Rng, exponents: Range<usize>, largest: u8, make: Maker) -> Vec<Request> {
     let mut list = Vec::new();
-    for n in 0..=LARGEST_EXPONENT {
-        for set in sets() {
+    for n in exponents {
+        for set in sets(n) {
             let r = rng.pick(&CHECKS);
             let code = Code::any(&mut rng, n, suited(n, r));
             let good = make(&mut rng, &code);
@@ -145,24 +176,28 @@ fn some_sets(mut rng: Rng, largest: u8, make: Maker) -> Vec<Request> {
     list
 }
 
-/// Sheets too short and too long; n above the largest, and n one off.
+/// Sheets too short and too long; n above the largest, and n one off. Of long codes the lengths next
+/// to the right one, and an n with the low bits of the shortest of them.
 fn sheet_lengths(mut rng: Rng, make: Maker) -> Vec<Request> {
     let mut list = Vec::new();
-    for n in 0..=LARGEST_EXPONENT {
+    for n in exponents() {
         let right = RECORD_BYTES << n;
         let code = Code::any(&mut rng, n, 0);
-        for length in [
-            0,
-            right - RECORD_BYTES,
-            right - 1,
-            right + 1,
-            right + RECORD_BYTES,
-        ] {
+        let mut lengths = vec![right - 1, right + 1];
+        let mut others = Vec::new();
+        if n <= LONG {
+            others.push(n + 64);
+        }
+        if n < LONG {
+            lengths.extend([0, right - RECORD_BYTES, right + RECORD_BYTES]);
+            others.extend([n + 1, n + 8, n + 256, n + 32768, 65535]);
+        }
+        for length in lengths {
             let mut request = make(&mut rng, &code);
             request.a.resize(length, 0);
             list.push(request);
         }
-        for other in [n + 1, n + 8, n + 64, n + 256, n + 32768, 65535] {
+        for other in others {
             let mut request = make(&mut rng, &code);
             request.n = other as u16;
             list.push(request);
@@ -171,14 +206,15 @@ fn sheet_lengths(mut rng: Rng, make: Maker) -> Vec<Request> {
     list
 }
 
-/// One bad record: at every place of a short sheet, at a few places of a long one.
+/// One bad record: at every place of a short sheet, at a few places of a longer one, at the middle
+/// or the last of a long one.
 fn bad_records(mut rng: Rng, make: Maker) -> Vec<Request> {
     let mut list = Vec::new();
-    for (n, r) in choices() {
-        let places = if n < 4 {
-            (0..1 << n).collect()
-        } else {
-            first_middle_last(1 << n)
+    for (n, r) in few_choices(&mut rng) {
+        let places = match n {
+            0..4 => (0..1 << n).collect(),
+            4..LONG => first_middle_last(1 << n),
+            _ => vec![rng.pick(&[1 << (n - 1), (1 << n) - 1])],
         };
         for i in places {
             let code = Code::any(&mut rng, n, r);
@@ -204,14 +240,17 @@ fn wrong_checks(mut rng: Rng, make: Maker) -> Vec<Request> {
     list
 }
 
-/// K = 1 without a check, which is enough; K = 1, r - 1 and r under one, as far as N allows it.
+/// K = 1 without a check, which is enough; K = 1, r - 1 and r under one, as far as N allows it; of
+/// long codes 11 under the longer check.
 fn small_k(mut rng: Rng, make: Maker) -> Vec<Request> {
     let mut list = Vec::new();
-    for n in 0..=LARGEST_EXPONENT {
-        let code = Code::new(&mut rng, n, 0, 1, STYLES[3]);
-        list.push(make(&mut rng, &code));
-        for r in [6, 11] {
-            for k in [1, r - 1, r].into_iter().filter(|&k| k <= 1 << n) {
+    for n in exponents() {
+        if n <= LONG {
+            let code = Code::new(&mut rng, n, 0, 1, STYLES[3]);
+            list.push(make(&mut rng, &code));
+        }
+        for (r, k) in [(6, 1), (6, 5), (6, 6), (11, 1), (11, 10), (11, 11)] {
+            if k <= 1 << n && (n < LONG || k == 11) {
                 let code = Code::new(&mut rng, n, 0, k, STYLES[3]);
                 let mut request = make(&mut rng, &code);
                 request.r = r as u16;
@@ -222,14 +261,19 @@ fn small_k(mut rng: Rng, make: Maker) -> Vec<Request> {
     list
 }
 
-/// b empty, one too short, one and two too long, r more and twice as long.
+/// b one too short and one too long; of short codes also empty, two too long, r more and twice as
+/// long.
 fn lengths(mut rng: Rng, make: Maker) -> Vec<Request> {
     let mut list = Vec::new();
-    for (n, r) in choices() {
+    for (n, r) in few_choices(&mut rng) {
         let code = Code::any(&mut rng, n, r);
         let good = make(&mut rng, &code);
         let right = good.b.len();
-        for length in [0, right - 1, right + 1, right + 2, right + r, 2 * right] {
+        let mut lengths = vec![right - 1, right + 1];
+        if n < LONG {
+            lengths.extend([0, right + 2, right + r, 2 * right]);
+        }
+        for length in lengths {
             let mut request = good.clone();
             request.b.resize(length, 1);
             list.push(request);
@@ -238,33 +282,44 @@ fn lengths(mut rng: Rng, make: Maker) -> Vec<Request> {
     list
 }
 
-/// Symbols above the largest, alone and before another.
+/// Symbols above the largest, alone and before another; of long codes one at the last place.
 fn symbols(mut rng: Rng, largest: u8, make: Maker) -> Vec<Request> {
     let mut list = Vec::new();
-    for (n, r) in choices() {
+    for (n, r) in few_choices(&mut rng) {
         let code = Code::any(&mut rng, n, r);
         let length = make(&mut rng, &code).b.len();
-        for place in first_middle_last(length) {
-            for value in [largest + 1, 255] {
+        let (places, values) = match n {
+            0..LONG => (first_middle_last(length), &[largest + 1, 255][..]),
+            _ => (vec![length - 1], &[largest + 1][..]),
+        };
+        for place in places {
+            for &value in values {
                 let mut request = make(&mut rng, &code);
                 request.b[place] = value;
                 list.push(request);
             }
         }
-        let mut request = make(&mut rng, &code);
-        request.b[length / 2..].fill(largest + 1);
-        list.push(request);
+        if n < LONG {
+            let mut request = make(&mut rng, &code);
+            request.b[length / 2..].fill(largest + 1);
+            list.push(request);
+        }
     }
     list
 }
 
-/// Outputs without a byte, too short by one, exact, and longer.
+/// Outputs too short and too long by one; of short codes also exact, without a byte, and longer by
+/// more.
 fn rooms(mut rng: Rng, make: Maker) -> Vec<Request> {
     let mut list = Vec::new();
-    for (n, r) in choices() {
+    for (n, r) in few_choices(&mut rng) {
         let code = Code::any(&mut rng, n, r);
         let exact = make(&mut rng, &code).o;
-        for o in [0, exact - 1, exact, exact + 1, exact + 7, 2 * exact + 3] {
+        let mut rooms = vec![exact - 1, exact + 1];
+        if n < LONG {
+            rooms.extend([0, exact, exact + 7, 2 * exact + 3]);
+        }
+        for o in rooms {
             let mut request = make(&mut rng, &code);
             request.o = o;
             list.push(request);
@@ -273,24 +328,41 @@ fn rooms(mut rng: Rng, make: Maker) -> Vec<Request> {
     list
 }
 
-/// No free position, under every check length: of the scope and not; and with a bad record.
+/// No free position, under every check length: of the scope and not; and with a bad record. Of codes
+/// of 64 symbols and more without a check.
 fn no_free_position(mut rng: Rng, make: Maker) -> Vec<Request> {
     let mut list = Vec::new();
-    for n in 0..=LARGEST_EXPONENT {
-        for r in any_checks() {
+    for n in exponents() {
+        let (checks, places) = match n {
+            0..6 => (any_checks(), first_middle_last(1 << n)),
+            _ => (vec![0], Vec::new()),
+        };
+        for r in checks {
             let code = Code::any(&mut rng, n, 0);
             let mut request = make(&mut rng, &code);
             free_nothing(&mut rng, &mut request);
             request.r = r as u16;
             list.push(request);
         }
-        for i in first_middle_last(1 << n) {
+        for i in places {
             let code = Code::any(&mut rng, n, 0);
             let mut request = make(&mut rng, &code);
             free_nothing(&mut rng, &mut request);
             spoil_frozen(&mut rng, &mut request.a, i);
             list.push(request);
         }
+    }
+    list
+}
+
+/// Sheets of 20-byte records, of every old N.
+fn old_layout(mut rng: Rng, make: Maker) -> Vec<Request> {
+    let mut list = Vec::new();
+    for (n, sheet) in old_sheets(&mut rng) {
+        let code = Code::any(&mut rng, n, 0);
+        let mut request = make(&mut rng, &code);
+        request.a = sheet;
+        list.push(request);
     }
     list
 }

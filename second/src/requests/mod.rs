@@ -1,6 +1,7 @@
 // The requests that go into the vectors: one module for each op, and what their lists share.
 // Every list starts from a seed of its own, so that a new one changes no other.
 
+mod convert;
 mod decode;
 mod encode;
 mod faults;
@@ -8,11 +9,12 @@ mod parts;
 mod read_back;
 mod sheets;
 mod stream;
+mod unknowns;
 
 use crate::protocol::Request;
 
 /// The ops that go into the vectors, in their order.
-pub const OPS: [u16; 5] = [0, 1, 2, 3, 4];
+pub const OPS: [u16; 6] = [0, 1, 2, 3, 4, 5];
 
 /// Every request of the vectors, in its order.
 pub fn all() -> Vec<Request> {
@@ -27,13 +29,7 @@ pub fn of(op: u16) -> Vec<Request> {
         2 => decode::all(),
         3 => read_back::all(),
         4 => stream::all(),
+        5 => convert::all(),
         op => panic!("no op {op}"),
     }
-}
-
-/// So many requests to measure by: sheets with the largest N whose frozen bits name all bits before
-/// them, checked (op 0) or encoded with (op 1).
-pub fn dense(op: u16, count: usize) -> Vec<Request> {
-    let requests = encode::dense(count).into_iter();
-    requests.map(|request| Request { op, ..request }).collect()
 }

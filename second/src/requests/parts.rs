@@ -1,14 +1,19 @@
 // What the lists of requests share: check lengths, sheets drawn at random, and good codes with
-// their words.
+// their words. A sheet of a long code takes ten thousand bytes and more, so that the lists keep of
+// these what each rule needs.
 
-use crate::limits::{LARGEST_EXPONENT, RECORD_BYTES};
+use crate::layout::{Layout, NEW, OLD};
+use crate::limits::LARGEST_EXPONENT;
 use crate::make::{
     any_codeword, bits, bytes, codeword, every_sheet, faults_at, frozen_at, frozen_faults_at, good,
-    only_word, spoil, word_of, zeros_first, Misreading, Style, MISREADINGS, STYLES,
+    good_records, only_word, spoil, word_of, zeros_first, Misreading, Style, MISREADINGS, STYLES,
 };
 use crate::protocol::Request;
 use crate::rng::Rng;
 use crate::sheet::{Record, Sheet};
+
+/// The codes of N = 2^n symbols are long from this n on.
+pub const LONG: usize = 7;
 
 /// The check lengths of the scope.
 pub const CHECKS: [usize; 3] = [0, 6, 11];
@@ -59,26 +64,61 @@ pub fn every_none_free() -> Vec<(usize, Vec<u8>)> {
         .collect()
 }
 
+/// An old sheet of N = 2^n records that keep every rule.
+pub fn old_sheet(rng: &mut Rng, n: usize, k: usize) -> Vec<u8> {
+    let style = any_style(rng);
+    OLD.write(&good_records(rng, 1 << n, k, style))
+}
+
+/// Old sheets of every N, with no free position, one and any number, each with its n.
+pub fn old_sheets(rng: &mut Rng) -> Vec<(usize, Vec<u8>)> {
+    let mut list = Vec::new();
+    for n in 0..=OLD.largest_exponent {
+        for k in [0, 1, rng.within(1, 1 << n)] {
+            list.push((n, old_sheet(rng, n, k)));
+        }
+    }
+    list
+}
+
+/// Spoils record i by any fault it can have in this layout.
+pub fn spoil_in(rng: &mut Rng, layout: Layout, sheet: &mut [u8], i: usize) {
+    let faults = faults_at(layout, sheet.len() / layout.record_bytes(), i);
+    let fault = rng.pick(&faults);
+    spoil(rng, layout, sheet, i, fault);
+}
+
 /// Spoils record i by any fault it can have.
 pub fn spoil_somehow(rng: &mut Rng, sheet: &mut [u8], i: usize) {
-    let faults = faults_at(sheet.len() / RECORD_BYTES, i);
-    let fault = rng.pick(&faults);
-    spoil(rng, sheet, i, fault);
+    spoil_in(rng, NEW, sheet, i);
 }
 
 /// Spoils the frozen record i by any fault that leaves it frozen.
 pub fn spoil_frozen(rng: &mut Rng, sheet: &mut [u8], i: usize) {
-    let faults = frozen_faults_at(sheet.len() / RECORD_BYTES, i);
+    let faults = frozen_faults_at(NEW, sheet.len() / NEW.record_bytes(), i);
     let fault = rng.pick(&faults);
-    spoil(rng, sheet, i, fault);
+    spoil(rng, NEW, sheet, i, fault);
 }
 
-/// Every n with every check length that a good sheet of N = 2^n can have.
+/// The n of most lists: of the long codes the shortest and the longest.
+pub fn exponents() -> Vec<usize> {
+    (0..=LONG).chain([LARGEST_EXPONENT]).collect()
+}
+
+/// These n with every check length that a good sheet of N = 2^n can have.
 pub fn choices() -> Vec<(usize, usize)> {
-    (0..=LARGEST_EXPONENT)
+    (exponents().into_iter())
         .flat_map(|n| CHECKS.map(|r| (n, r)))
         .filter(|&(n, r)| suited(n, r) == r)
         .collect()
+}
+
+/// The same, of codes of 32 symbols and more with one check length alone, drawn at random.
+pub fn few_choices(rng: &mut Rng) -> Vec<(usize, usize)> {
+    let drawn: Vec<usize> = (0..=LARGEST_EXPONENT).map(|_| rng.pick(&CHECKS)).collect();
+    let mut list = choices();
+    list.retain(|&(n, r)| n < 5 || r == drawn[n]);
+    list
 }
 
 /// The check length where a good sheet of N = 2^n can have it, else 0.
@@ -94,6 +134,22 @@ pub fn suited(n: usize, r: usize) -> usize {
 pub fn first_middle_last(length: usize) -> Vec<usize> {
     let mut places = vec![0, length / 2, length - 1];
     places.dedup();
+    places
+}
+
+/// Every place of a short length; of a long one places at the edges of bytes and of words of 64 bits,
+/// the first and the last.
+pub fn telling_places(length: usize) -> Vec<usize> {
+    if length < 1 << LONG {
+        return (0..length).collect();
+    }
+    let mut places = vec![0, 7, 8, 63, 64, 65, 127, 128, 255, 256, 320, 384, 448];
+    if length > 256 {
+        // the edges of bytes are those of shorter ones
+        places.drain(1..4);
+    }
+    places.retain(|&place| place + 1 < length);
+    places.push(length - 1);
     places
 }
 
@@ -129,7 +185,8 @@ impl Code {
         let mut order: Vec<usize> = (0..1 << n).collect();
         order.sort_by_key(|i| i.count_ones());
         let style = any_style(rng);
-        let sheet = frozen_at(rng, 1 << n, &order[..(1 << n) - k], style);
+        let records = frozen_at(rng, 1 << n, &order[..(1 << n) - k], style);
+        let sheet = bytes(&records);
         Code { n, r, sheet }
     }
 
@@ -148,9 +205,50 @@ impl Code {
         Code { n, r, sheet }
     }
 
+    /// The first K positions are free, and every frozen one names half of the bits before it.
+    pub fn tied(rng: &mut Rng, n: usize, r: usize, k: usize) -> Code {
+        let mut records = vec![Record::default(); k];
+        for i in k..1 << n {
+            records.push(Record {
+                frozen: true,
+                constant: rng.bit(),
+                named: (0..i).filter(|_| rng.bit()).collect(),
+            });
+        }
+        let sheet = bytes(&records);
+        Code { n, r, sheet }
+    }
+
+    /// The positions of one kind are free, and each other one names one of them alone, or all before
+    /// it but that one: every second position, the others, and the left half.
+    pub fn by_single_bits(n: usize) -> Vec<Code> {
+        let half = 1 << (n - 1);
+        let pairs: [(fn(usize, usize) -> bool, usize); 3] = [
+            (|i, _| i % 2 == 0, 1),
+            (|i, _| i % 2 == 1, 1),
+            (|i, half| i < half, half),
+        ];
+        let mut list = Vec::new();
+        for (is_free, distance) in pairs {
+            for alone in [true, false] {
+                let record = |i: usize| match i.checked_sub(distance) {
+                    Some(named) if !is_free(i, half) => Record {
+                        frozen: true,
+                        constant: false,
+                        named: (0..i).filter(|&j| (j == named) == alone).collect(),
+                    },
+                    _ => Record::default(),
+                };
+                let sheet = bytes(&(0..1 << n).map(record).collect::<Vec<_>>());
+                list.push(Code { n, r: 0, sheet });
+            }
+        }
+        list
+    }
+
     /// Every code of one and of two symbols, and some of four, without a check.
     pub fn small() -> Vec<Code> {
-        [(0, 1), (1, 1), (2, 41)]
+        [(0, 1), (1, 1), (2, 127)]
             .into_iter()
             .flat_map(|(n, step)| {
                 let sheets = every_sheet(1 << n).into_iter();
@@ -229,12 +327,14 @@ impl Code {
 }
 
 /// Codes by which the ones in front of the free bits are seen: every N and check length above 0,
-/// with the fewest free positions that r allows and any number. No constant is 1, so that the
-/// all-zero word keeps every rule.
+/// with any number of free positions and, up to 32 symbols, the fewest that r allows. No constant is
+/// 1, so that the all-zero word keeps every rule.
 pub fn checked_codes(rng: &mut Rng) -> Vec<Code> {
     let mut list = Vec::new();
     for (n, r) in choices().into_iter().filter(|&(_, r)| r > 0) {
-        list.push(Code::new(rng, n, r, r + 1, STYLES[0]));
+        if n < 6 {
+            list.push(Code::new(rng, n, r, r + 1, STYLES[0]));
+        }
         let k = rng.within(r + 1, 1 << n);
         list.push(Code::new(rng, n, r, k, STYLES[2]));
     }
@@ -261,6 +361,15 @@ pub fn telling_words(rng: &mut Rng, code: &Code) -> Vec<Vec<u8>> {
         words.push(code.misread(rng, misreading));
     }
     words
+}
+
+/// The same of a short code; of a long one the word of one misreading.
+pub fn few_telling_words(rng: &mut Rng, code: &Code) -> Vec<Vec<u8>> {
+    if code.n < LONG {
+        return telling_words(rng, code);
+    }
+    let misreading = rng.pick(&MISREADINGS);
+    vec![code.misread(rng, misreading)]
 }
 
 /// The symbols of a text such as 02200220.

@@ -3,8 +3,8 @@
 
 use super::faults;
 use super::parts::{
-    checked_codes, choices, every_none_free, first_middle_last, none_free_words, room,
-    telling_words, Code,
+    checked_codes, choices, every_none_free, few_choices, few_telling_words, first_middle_last,
+    none_free_words, room, Code, CHECKS, LONG,
 };
 use crate::code::transform;
 use crate::limits::LARGEST_EXPONENT;
@@ -15,6 +15,7 @@ use crate::rng::Rng;
 pub fn all() -> Vec<Request> {
     [
         faults::all(300, 1, good),
+        faults::long_sets(Rng::new(321), 1, good),
         whole(),
         flipped(),
         two_flipped(),
@@ -25,6 +26,7 @@ pub fn all() -> Vec<Request> {
         small_codes(),
         no_payload(),
         ones_in_front(),
+        by_single_bits(),
     ]
     .concat()
 }
@@ -46,14 +48,26 @@ fn read_in_room(rng: &mut Rng, code: &Code, word: Vec<u8>) -> Request {
     read_back(rng, code, word, o)
 }
 
-/// Codewords of every style, and of sheets with dense masks.
+/// How many rounds a list has for n: so many of short codes, fewer from 16 symbols on, and one of
+/// long ones.
+fn rounds(n: usize, most: usize) -> usize {
+    match n {
+        0..4 => most,
+        4 => most.div_ceil(3),
+        5..LONG => most.div_ceil(5),
+        _ => 1,
+    }
+}
+
+/// Codewords of every style, and of sheets with dense masks; of long codes any one.
 fn whole() -> Vec<Request> {
     let mut rng = Rng::new(310);
     let mut list = Vec::new();
-    for (n, r) in choices() {
-        for round in 0..28 {
+    let between = CHECKS.map(|r| (LONG + 1, r));
+    for (n, r) in choices().into_iter().chain(between) {
+        for round in 0..rounds(n, 20) {
             let k = rng.within(r + 1, 1 << n);
-            let code = match STYLES.get(round % 7) {
+            let code = match STYLES.get((round + n + r) % 5) {
                 Some(&style) => Code::new(&mut rng, n, r, k, style),
                 None => Code::dense(&mut rng, n, r),
             };
@@ -64,12 +78,12 @@ fn whole() -> Vec<Request> {
     list
 }
 
-/// One symbol flipped: at every place of a short word, at any place of a long one.
+/// One symbol flipped: at every place of a short word, at any place of a longer one.
 fn flipped() -> Vec<Request> {
     let mut rng = Rng::new(311);
     let mut list = Vec::new();
-    for (n, r) in choices() {
-        for count in 0..(2usize << n).min(32) {
+    for (n, r) in few_choices(&mut rng).into_iter().filter(|&(n, _)| n < LONG) {
+        for count in 0..rounds(n, (2usize << n).min(32)) {
             let code = Code::any(&mut rng, n, r);
             let mut word = code.codeword(&mut rng);
             let place = if n > 4 {
@@ -88,8 +102,11 @@ fn flipped() -> Vec<Request> {
 fn two_flipped() -> Vec<Request> {
     let mut rng = Rng::new(312);
     let mut list = Vec::new();
-    for (n, r) in choices().into_iter().filter(|&(n, _)| n > 0) {
-        for _ in 0..10 {
+    for (n, r) in few_choices(&mut rng)
+        .into_iter()
+        .filter(|&(n, _)| (1..LONG).contains(&n))
+    {
+        for _ in 0..rounds(n, 10) {
             let code = Code::any(&mut rng, n, r);
             let mut word = code.codeword(&mut rng);
             for &place in &rng.order(1 << n)[..2] {
@@ -109,16 +126,19 @@ fn with_other_bit(word: &[u8], position: usize) -> Vec<u8> {
     transform(&u).into_iter().map(u8::from).collect()
 }
 
-/// One frozen bit other than its rule, the free bits kept: the first, a middle and the last.
+/// One frozen bit other than its rule, the free bits kept: the first, a middle and the last; of long
+/// codes the last.
 fn rule_broken() -> Vec<Request> {
     let mut rng = Rng::new(313);
     let mut list = Vec::new();
     for (n, r) in choices() {
-        for _ in 0..4 {
+        for _ in 0..rounds(n, 4) {
             let code = Code::any(&mut rng, n, r);
             let free = code.read().free();
             let frozen: Vec<usize> = (0..1 << n).filter(|i| !free.contains(i)).collect();
-            for at in first_middle_last(frozen.len().max(1)) {
+            let places = first_middle_last(frozen.len().max(1));
+            let kept = if n < LONG { 0 } else { places.len() - 1 };
+            for &at in &places[kept..] {
                 if let Some(&position) = frozen.get(at) {
                     let word = with_other_bit(&code.codeword(&mut rng), position);
                     list.push(read_in_room(&mut rng, &code, word));
@@ -129,12 +149,12 @@ fn rule_broken() -> Vec<Request> {
     list
 }
 
-/// Every rule kept and the check broken: the code without its check gives the words.
+/// Every rule kept and the check broken, of short codes: the code without its check gives the words.
 fn check_broken() -> Vec<Request> {
     let mut rng = Rng::new(314);
     let mut list = Vec::new();
-    for (n, r) in choices().into_iter().filter(|&(_, r)| r > 0) {
-        for _ in 0..16 {
+    for (n, r) in choices().into_iter().filter(|&(n, r)| r > 0 && n < LONG) {
+        for _ in 0..rounds(n, 12) {
             let code = Code::any(&mut rng, n, r);
             let word = code.without_check().codeword(&mut rng);
             list.push(read_in_room(&mut rng, &code, word));
@@ -143,12 +163,12 @@ fn check_broken() -> Vec<Request> {
     list
 }
 
-/// Words drawn without the code.
+/// Words drawn without the code, the longest under a check.
 fn any_words() -> Vec<Request> {
     let mut rng = Rng::new(315);
     let mut list = Vec::new();
     for (n, r) in choices() {
-        for _ in 0..8 {
+        for _ in 0..if r == 0 && n > LONG { 0 } else { rounds(n, 8) } {
             let code = Code::any(&mut rng, n, r);
             let word = bits(&mut rng, 1 << n);
             list.push(read_in_room(&mut rng, &code, word));
@@ -157,12 +177,17 @@ fn any_words() -> Vec<Request> {
     list
 }
 
-/// All 0 and all 1.
+/// All 0 and all 1; from 64 symbols on with one style and without a check.
 fn plain_words() -> Vec<Request> {
     let mut rng = Rng::new(316);
     let mut list = Vec::new();
     for (n, r) in choices() {
-        for style in STYLES {
+        let styles = match (n, r) {
+            (0..6, _) => &STYLES[..],
+            (..=LONG, 0) => &STYLES[2..3],
+            _ => &[],
+        };
+        for &style in styles {
             let k = rng.within(r + 1, 1 << n);
             let code = Code::new(&mut rng, n, r, k, style);
             for symbol in [0, 1] {
@@ -186,7 +211,7 @@ fn small_codes() -> Vec<Request> {
 }
 
 /// No free position: refused, whether or not the word keeps every rule; every word of one and of
-/// two symbols, and for every N the word that does and another.
+/// two symbols, and for every short N the word that does and another.
 fn no_payload() -> Vec<Request> {
     let mut rng = Rng::new(318);
     let mut list = Vec::new();
@@ -197,7 +222,7 @@ fn no_payload() -> Vec<Request> {
             list.push(read_back(&mut rng, &code, word, o));
         }
     }
-    for n in 0..=LARGEST_EXPONENT {
+    for n in 0..LONG {
         let (code, word, other) = none_free_words(&mut rng, n);
         list.push(read_back(&mut rng, &code, word, 0));
         list.push(read_back(&mut rng, &code, other, 1));
@@ -210,9 +235,20 @@ fn ones_in_front() -> Vec<Request> {
     let mut rng = Rng::new(319);
     let mut list = Vec::new();
     for code in checked_codes(&mut rng) {
-        for word in telling_words(&mut rng, &code) {
+        for word in few_telling_words(&mut rng, &code) {
             list.push(read_in_room(&mut rng, &code, word));
         }
     }
     list
+}
+
+/// Words whose free bits are 1: every bit of the longest mask decides, both ways.
+fn by_single_bits() -> Vec<Request> {
+    let mut rng = Rng::new(320);
+    (Code::by_single_bits(LARGEST_EXPONENT)[..4].iter())
+        .map(|code| {
+            let word = code.codeword_of(&vec![1; code.payload()]);
+            read_in_room(&mut rng, code, word)
+        })
+        .collect()
 }

@@ -1,14 +1,16 @@
 // Op 4, stream: inputs of whole and cut-off words, sheets and choices of wrong lengths, words
-// refused one by one, sheets with no free position, rooms at the edge, and words that keep the
-// check as it could be misread.
+// refused one by one, sheets with no free position, rooms at the edge, words that keep the check as
+// it could be misread, and words of each verdict at the borders of g. A stream has many words for
+// one sheet: of the longest code it is here that every kind of word is met.
 
 use super::parts::{
-    any_checks, any_style, checked_codes, choices, every_none_free, first_middle_last, none_free,
-    spoil_frozen, spoil_somehow, symbols, telling_words, Code,
+    any_checks, any_style, checked_codes, choices, every_none_free, exponents, first_middle_last,
+    none_free, old_sheets, spoil_frozen, spoil_somehow, symbols, telling_words, Code, CHECKS, LONG,
 };
+use super::unknowns::{self, lost_to};
 use crate::calls::ANSWER_BYTES;
-use crate::limits::{LARGEST_EXPONENT, RECORD_BYTES};
-use crate::make::{bits, damaged, every_word, only_word};
+use crate::limits::{LARGEST_CEILING, LARGEST_EXPONENT, RECORD_BYTES};
+use crate::make::{bits, damaged, every_word, only_word, MISREADINGS};
 use crate::protocol::{Request, INPUT_ROOM, OUTPUT_ROOM};
 use crate::rng::Rng;
 
@@ -26,6 +28,8 @@ pub fn all() -> Vec<Request> {
         rooms(),
         longest(),
         ones_in_front(),
+        borders_of_unknowns(),
+        old_layout(),
     ]
     .concat()
 }
@@ -117,11 +121,14 @@ fn sheet_lengths() -> Vec<Request> {
         largest - one,
         largest - 1,
         largest + 1,
-        2 * largest,
         INPUT_ROOM,
     ] {
-        for choice in [2, 1] {
-            for input in [0, 5] {
+        let (choices, inputs) = match length {
+            length if length < largest / 2 => (&[2, 1][..], &[0, 5][..]),
+            _ => (&[2][..], &[5][..]),
+        };
+        for &choice in choices {
+            for &input in inputs {
                 let input = bits(&mut rng, input);
                 let request = stream(&mut rng, vec![0; length], vec![0; choice], input);
                 list.push(in_a_room(&mut rng, request));
@@ -131,13 +138,17 @@ fn sheet_lengths() -> Vec<Request> {
     list
 }
 
-/// Choices of no, one, three and four bytes, with and without an input, some with a bad record.
+/// Choices of no, one, three and four bytes, with and without an input, some with a bad record; of
+/// long codes of one and three bytes, the one with and the other without an input.
 fn choice_lengths() -> Vec<Request> {
     let mut rng = Rng::new(402);
     let mut list = Vec::new();
-    for n in 0..=LARGEST_EXPONENT {
+    for n in exponents() {
         for length in [0, 1, 3, 4] {
             for input in [0, (2 << n) + 1] {
+                if n >= LONG && ![(1, false), (3, true)].contains(&(length, input == 0)) {
+                    continue;
+                }
                 let mut code = Code::any(&mut rng, n, 0);
                 if rng.bit() {
                     spoil_somehow(&mut rng, &mut code.sheet, 0);
@@ -155,8 +166,11 @@ fn choice_lengths() -> Vec<Request> {
 fn empty_input() -> Vec<Request> {
     let mut rng = Rng::new(403);
     let mut list = Vec::new();
-    for n in 0..=LARGEST_EXPONENT {
+    for n in exponents() {
         for (choice, bad_record) in [([0, 63], false), ([0, 63], true), ([5, 64], false)] {
+            if n >= LONG && (bad_record || choice[0] == 0) {
+                continue;
+            }
             let mut code = Code::any(&mut rng, n, 0);
             if bad_record {
                 spoil_somehow(&mut rng, &mut code.sheet, 0);
@@ -168,11 +182,12 @@ fn empty_input() -> Vec<Request> {
     list
 }
 
-/// A last word of every length below N, or of a few where N is large, after none and two.
+/// A last word of every length below N, or of a few where N is large, after none and one; of long
+/// codes the longest after one.
 fn cut_off() -> Vec<Request> {
     let mut rng = Rng::new(404);
     let mut list = Vec::new();
-    for n in 1..=LARGEST_EXPONENT {
+    for n in exponents().into_iter().skip(1) {
         let last = (1 << n) - 1;
         let missing = if n < 5 {
             (0..last).collect()
@@ -180,7 +195,10 @@ fn cut_off() -> Vec<Request> {
             first_middle_last(last)
         };
         for rest in missing.into_iter().map(|missing| last - missing) {
-            for whole in [0, 2] {
+            for whole in [0, 1] {
+                if n >= LONG && (whole, rest) != (1, last) {
+                    continue;
+                }
                 let code = Code::any(&mut rng, n, 0);
                 let mut input = words(&mut rng, &code, whole + 1);
                 input.truncate((whole << n) + rest);
@@ -192,14 +210,20 @@ fn cut_off() -> Vec<Request> {
     list
 }
 
-/// Several words that differ, under ceilings that some of them pass.
+/// Several words that differ, under ceilings that some of them pass; more words of long codes, under
+/// one ceiling each.
 fn several_words() -> Vec<Request> {
     let mut rng = Rng::new(405);
     let mut list = Vec::new();
-    for (n, r) in choices() {
-        for ceiling in [63, 63, n as u8 / 2] {
+    let between = CHECKS.map(|r| (LONG + 1, r));
+    for (n, r) in choices().into_iter().chain(between) {
+        let (ceilings, most) = match n {
+            0..LONG => (vec![rng.pick(&[63, 64, 255]), n as u8 / 2], 7),
+            _ => (vec![rng.pick(&[63, 64, 127, 128, 255])], 16),
+        };
+        for ceiling in ceilings {
             let code = Code::any(&mut rng, n, r);
-            let count = rng.within(6, 14);
+            let count = rng.within(most / 2, most);
             let input = words(&mut rng, &code, count);
             let request = stream(&mut rng, code.sheet, vec![r as u8, ceiling], input);
             list.push(request);
@@ -221,35 +245,39 @@ fn small_codes() -> Vec<Request> {
 }
 
 /// What each word is refused for: the sheet has a bad record, r is wrong or not below K, a symbol
-/// is too large, the ceiling is; several of these at once; each with a cut-off word at the end.
+/// is too large, g is above the ceiling; several of these at once; each with a cut-off word at the
+/// end. Of long codes a few of these.
 fn refused_words() -> Vec<Request> {
     let mut rng = Rng::new(406);
     let mut list = Vec::new();
-    for n in 0..=LARGEST_EXPONENT {
+    for n in exponents() {
         for (bad_record, r, bad_symbol, ceiling) in [
-            (true, 0, false, 63),
             (true, 5, true, 64),
+            (true, 0, false, 63),
             (false, 255, false, 63),
             (false, 12, true, 200),
             (false, 11, false, 63),
             (false, 6, true, 255),
-            (false, 0, false, 64),
             (false, 0, true, 255),
+            (false, 0, false, 64),
             (false, 0, true, 63),
             (false, 0, false, 0),
-        ] {
+        ]
+        .into_iter()
+        .step_by(if n < LONG { 1 } else { 4 })
+        {
             let k = rng.within(1, 6.min(1 << n));
             let style = any_style(&mut rng);
             let mut code = Code::new(&mut rng, n, 0, k, style);
-            let mut input = words(&mut rng, &code, 4);
+            let mut input = words(&mut rng, &code, 2);
             if bad_symbol {
-                input[(1 << n) + rng.below(1 << n)] = rng.pick(&[3, 255]);
+                input[rng.below(1 << n)] = rng.pick(&[3, 255]);
             }
             if bad_record {
                 let i = rng.below(1 << n);
                 spoil_somehow(&mut rng, &mut code.sheet, i);
             }
-            input.truncate((4 << n) - rng.below(1 << n));
+            input.truncate((2 << n) - rng.below(1 << n));
             let request = stream(&mut rng, code.sheet, vec![r, ceiling], input);
             list.push(in_a_room(&mut rng, request));
         }
@@ -259,7 +287,8 @@ fn refused_words() -> Vec<Request> {
 
 /// No free position: a record of its own for each word, the cut-off last one too, and none for an
 /// empty input, under right and wrong choices, with a bad symbol and without; the same with a bad
-/// record at the end; one record where the choice or the sheet is of a wrong length.
+/// record at the end; one record where the choice or the sheet is of a wrong length. Of long codes a
+/// few of these.
 fn no_free_position() -> Vec<Request> {
     let mut rng = Rng::new(410);
     let mut list = Vec::new();
@@ -270,11 +299,11 @@ fn no_free_position() -> Vec<Request> {
     let checks: Vec<u8> = (any_checks().into_iter())
         .filter_map(|r| r.try_into().ok())
         .collect();
-    for n in 0..=LARGEST_EXPONENT {
+    for n in exponents() {
         let sheet = none_free(&mut rng, n);
         let word = only_word(n, &sheet);
         let mut input = Vec::new();
-        for losses in [0, 4, 8] {
+        for losses in [0, 4] {
             input.extend(damaged(&mut rng, &word, losses));
         }
         let other = bits(&mut rng, 1 << n);
@@ -287,15 +316,18 @@ fn no_free_position() -> Vec<Request> {
         long_sheet.extend([1; 3]);
         let wrong = rng.pick(&checks[3..]);
         for (sheet, choice, input) in [
-            (&sheet, &[6, 0][..], &input),
+            (&sheet, &[wrong, 255][..], &strange),
+            (&sheet, &[6, 0], &input),
             (&sheet, &[11, 64], &strange),
-            (&sheet, &[wrong, 255], &strange),
             (&sheet, &[0, 63], &Vec::new()),
             (&sheet, &[0], &input),
             (&sheet, &[0, 63, 0], &Vec::new()),
             (&bad_sheet, &[0, 63], &input),
             (&long_sheet, &[0, 63], &input),
-        ] {
+        ]
+        .into_iter()
+        .step_by(if n < LONG { 1 } else { 3 })
+        {
             list.push(stream(
                 &mut rng,
                 sheet.clone(),
@@ -304,28 +336,33 @@ fn no_free_position() -> Vec<Request> {
             ));
         }
         let request = stream(&mut rng, sheet, vec![0, 63], input);
-        list.extend(in_rooms(request));
+        match n {
+            0 | 3 => list.extend(in_rooms(request)),
+            _ => list.push(request),
+        }
     }
     list
 }
 
-/// Three words in rooms of no byte, of one record less, too short by one, exact, and longer.
+/// Three words in rooms of no byte, of one record less, too short by one, exact, and longer; of long
+/// codes too short by one.
 fn rooms() -> Vec<Request> {
     let mut rng = Rng::new(407);
     let mut list = Vec::new();
-    for n in 0..=LARGEST_EXPONENT {
+    for n in exponents() {
         let code = Code::any(&mut rng, n, 0);
         let input = words(&mut rng, &code, 3);
         let request = stream(&mut rng, code.sheet, vec![0, 63], input);
         let exact = request.o;
-        for o in [
+        let rooms = [
+            exact - 1,
+            exact + 1,
+            exact,
             0,
             exact - ANSWER_BYTES,
-            exact - 1,
-            exact,
-            exact + 1,
             exact + ANSWER_BYTES,
-        ] {
+        ];
+        for &o in &rooms[..if n < LONG { 6 } else { 1 }] {
             list.push(Request {
                 o,
                 ..request.clone()
@@ -338,13 +375,9 @@ fn rooms() -> Vec<Request> {
 /// The longest inputs and outputs a request has room for.
 fn longest() -> Vec<Request> {
     let mut rng = Rng::new(408);
-    let most = OUTPUT_ROOM / ANSWER_BYTES;
     let mut list = Vec::new();
     for (n, bytes, o) in [
-        (0, most, most * ANSWER_BYTES),
-        (0, most + 1, OUTPUT_ROOM),
-        (0, INPUT_ROOM, OUTPUT_ROOM),
-        (3, most << 3, OUTPUT_ROOM),
+        (0, INPUT_ROOM, 1000),
         (LARGEST_EXPONENT, INPUT_ROOM, OUTPUT_ROOM),
     ] {
         let code = Code::any(&mut rng, n, 0);
@@ -356,14 +389,63 @@ fn longest() -> Vec<Request> {
     list
 }
 
-/// Words by which the ones in front of the free bits are seen, one after the other.
+/// Words by which the ones in front of the free bits are seen, one after the other; of long codes
+/// with some losses too.
 fn ones_in_front() -> Vec<Request> {
     let mut rng = Rng::new(411);
     let mut list = Vec::new();
     for code in checked_codes(&mut rng) {
-        let input = telling_words(&mut rng, &code).concat();
-        let choice = vec![code.r as u8, 63];
+        let mut words = telling_words(&mut rng, &code);
+        if code.n >= LONG {
+            words.drain(1..words.len() - MISREADINGS.len() - 1);
+            let lost: Vec<Vec<u8>> = words.iter().map(|w| damaged(&mut rng, w, 1)).collect();
+            words.extend(lost);
+        }
+        let input = words.concat();
+        let choice = vec![code.r as u8, LARGEST_CEILING as u8];
         list.push(stream(&mut rng, code.sheet, choice, input));
+    }
+    list
+}
+
+/// Words of the longest code with g at each border, under every check length: of a code whose frozen
+/// bits tie many unknowns, as they are and with a symbol turned over, and of one whose tie few.
+fn borders_of_unknowns() -> Vec<Request> {
+    let mut rng = Rng::new(412);
+    let mut list = Vec::new();
+    let n = LARGEST_EXPONENT;
+    for r in CHECKS {
+        for k in [LARGEST_CEILING + r, (1 << n) - 2] {
+            let code = Code::tied(&mut rng, n, r, k);
+            let mut input = Vec::new();
+            for g in unknowns::borders(n)
+                .into_iter()
+                .chain(unknowns::too_many(n))
+            {
+                let word = code.codeword(&mut rng);
+                let word = lost_to(&mut rng, &code, &word, g);
+                input.extend(&word);
+                if k == LARGEST_CEILING + r && g <= LARGEST_CEILING {
+                    let read: Vec<usize> = (0..1 << n).filter(|&j| word[j] < 2).collect();
+                    let mut other = word;
+                    other[rng.pick(&read)] ^= 1;
+                    input.extend(other);
+                }
+            }
+            let choice = vec![r as u8, LARGEST_CEILING as u8];
+            list.push(stream(&mut rng, code.sheet, choice, input));
+        }
+    }
+    list
+}
+
+/// Sheets of 20-byte records, of every old N: one record of 11, and the words are not read.
+fn old_layout() -> Vec<Request> {
+    let mut rng = Rng::new(413);
+    let mut list = Vec::new();
+    for (n, sheet) in old_sheets(&mut rng) {
+        let input = bits(&mut rng, 2 << n);
+        list.push(stream(&mut rng, sheet, vec![0, 63], input));
     }
     list
 }

@@ -67,6 +67,11 @@ pub fn record(numbers: [u16; 5], strips: Option<[Vec<u8>; 3]>) -> Vec<u8> {
     record
 }
 
+/// The five numbers of an answer record.
+pub fn numbers_of(record: &[u8]) -> [u16; 5] {
+    [0, 2, 4, 6, 8].map(|at| u16::from_le_bytes([record[at], record[at + 1]]))
+}
+
 /// A record of a code with the rest 0 and no strips.
 pub fn lone(code: u16) -> Vec<u8> {
     record([code, 0, 0, 0, 0], None)
