@@ -19,6 +19,14 @@ fn every(length: usize) -> Vec<(Vec<bool>, Vec<bool>)> {
         .collect()
 }
 
+/// Every u that keeps the rules and the check with its codeword, in the order of u.
+pub fn every_codeword(sheet: &Sheet, r: usize) -> Vec<(Vec<bool>, Vec<bool>)> {
+    let mut list = every(sheet.length());
+    list.retain(|(u, _)| keeps(sheet, r, u));
+    list.sort();
+    list
+}
+
 /// The agreeing codewords of a word, if any. Vectors of bools compare from u_0 on, 0 before 1.
 pub fn agreeing(sheet: &Sheet, r: usize, word: &[u8]) -> Option<Agreeing> {
     let list: Vec<(Vec<bool>, Vec<bool>)> = every(sheet.length())

@@ -1,10 +1,12 @@
 // Requests and answers as bytes, and what the requests of the vectors must reach.
 
 mod common;
-use common::{check_kept, sheet_e, symbols, u_of};
+use common::{check_kept, lone, numbers_of, sheet_e, symbols, u_of};
 use second::answer::{Answer, OF_CODEC, OF_SHEET, ORDER};
-use second::calls::stream_numbers;
+use second::calls::{stream_numbers, ANSWER_BYTES};
 use second::code::{free_bits, keeps};
+use second::layout::{NEW, OLD};
+use second::limits::{LARGEST_CEILING, LARGEST_EXPONENT, MASK_BYTES, RECORD_BYTES};
 use second::make::{codeword, word_of, Misreading, MISREADINGS};
 use second::protocol::{write_answer, Request};
 use second::requests;
@@ -38,7 +40,9 @@ fn a_request_and_its_answer_byte_by_byte() {
         o: 25,
     };
     let mut expected = vec![2, 0, 3, 0, 0, 0, 63, 0];
-    expected.extend([160, 0, 0, 0, 8, 0, 0, 0, 0, 0, 0, 0, 25, 0, 0, 0]);
+    for length in [8 * RECORD_BYTES as u32, 8, 0, 25] {
+        expected.extend(length.to_le_bytes());
+    }
     expected.extend(sheet_e());
     expected.extend(symbols("22221000"));
     assert_eq!(bytes_of(&request), expected);
@@ -48,18 +52,23 @@ fn a_request_and_its_answer_byte_by_byte() {
     assert_eq!(answer_of(&request), answer);
 }
 
+/// Sheet E in the old layout.
+fn old_sheet_e() -> Vec<u8> {
+    OLD.write(&NEW.read(3, &sheet_e()).unwrap().records)
+}
+
 /// A request of each op that works; the stream is of two words.
 fn one_of_each() -> Vec<Request> {
-    let inputs = ["", "1000", "21111000", "01111000", "011110002"];
-    let codes = (0..5).zip(inputs).map(|(op, input)| Request {
+    let inputs = ["", "1000", "21111000", "01111000", "011110002", ""];
+    let codes = (0..6).zip(inputs).map(|(op, input)| Request {
         op,
         n: 3,
         r: 0,
         ceiling: 63,
-        a: sheet_e(),
+        a: if op == 5 { old_sheet_e() } else { sheet_e() },
         b: symbols(input),
         c: if op == 4 { vec![0, 63] } else { Vec::new() },
-        o: 800,
+        o: 2 * ANSWER_BYTES + 8,
     });
     codes.collect()
 }
@@ -74,7 +83,7 @@ fn each_op_makes_its_call() {
             out.iter().take_while(|&&byte| byte != 165).count()
         })
         .collect();
-    assert_eq!(written, [0, 8, 24, 4, 784]);
+    assert_eq!(written, [0, 8, 24, 4, 2 * ANSWER_BYTES, 8 * RECORD_BYTES]);
 }
 
 #[test]
@@ -89,7 +98,7 @@ fn requests_are_read_until_the_run_ends() {
         read
     };
     assert_eq!(read(&input), list);
-    assert_eq!(read(&input[..input.len() - 1]), list[..4], "cut off");
+    assert_eq!(read(&input[..input.len() - 1]), list[..5], "cut off");
     let ended = |change: fn(&mut Request), ends: bool| {
         let mut other = list[0].clone();
         change(&mut other);
@@ -105,11 +114,12 @@ fn requests_are_read_until_the_run_ends() {
     ended(|request| request.c = vec![0; 40_001], true);
     ended(|request| request.o = 140_000, false);
     ended(|request| request.o = 140_001, true);
-    ended(|request| request.op = 5, true);
+    ended(|request| request.op = 6, true);
 }
 
 /// The rules that record i of N breaks, each by a number of its own.
 fn broken(i: usize, length: usize, record: &[u8]) -> BTreeSet<u8> {
+    let bits = 8 * (record.len() - 4);
     let names =
         |from: usize, to: usize| (from..to).any(|j| record[4 + j / 8] & (1 << (j % 8)) != 0);
     let rules = [
@@ -118,10 +128,10 @@ fn broken(i: usize, length: usize, record: &[u8]) -> BTreeSet<u8> {
         record[2] != 0,
         record[3] != 0,
         record[0] == 0 && record[1] == 1,
-        record[0] == 0 && names(0, 128),
+        record[0] == 0 && names(0, bits),
         record[0] == 1 && names(i, i + 1),
         record[0] == 1 && names(i + 1, length),
-        record[0] == 1 && names(length, 128),
+        record[0] == 1 && names(length, bits),
     ];
     (0..9).filter(|&rule| rules[rule as usize]).collect()
 }
@@ -131,7 +141,7 @@ type Answered = (Request, Answer, Vec<u8>);
 
 /// Every request of an op, answered once.
 fn answered(op: u16) -> &'static [Answered] {
-    static ALL: [OnceLock<Vec<Answered>>; 5] = [const { OnceLock::new() }; 5];
+    static ALL: [OnceLock<Vec<Answered>>; 6] = [const { OnceLock::new() }; 6];
     ALL[usize::from(op)].get_or_init(|| {
         let list = requests::of(op).into_iter();
         list.map(|request| {
@@ -142,12 +152,33 @@ fn answered(op: u16) -> &'static [Answered] {
     })
 }
 
-/// Every n with every check length a good sheet can have.
+/// The codes of N = 2^n symbols are long from this n on: less is held of them.
+const LONG: u16 = 7;
+
+/// The largest n.
+const MOST: u16 = LARGEST_EXPONENT as u16;
+
+/// The n of which most is held: of the long codes the shortest and the longest.
+fn exponents() -> Vec<u16> {
+    (0..=LONG).chain([MOST]).collect()
+}
+
+/// These n with every check length a good sheet can have.
 fn choices() -> BTreeSet<(u16, u16)> {
-    (0..=7)
+    (exponents().into_iter())
         .flat_map(|n| [(n, 0), (n, 6), (n, 11)])
         .filter(|&(n, r)| r < 1 << n)
         .collect()
+}
+
+/// Places at the edges of bytes and of words of 64 bits in a long sheet.
+fn telling_places(n: u16) -> &'static [u16] {
+    match n {
+        7 => &[0, 7, 8, 63, 64, 65, 127],
+        8 => &[0, 7, 8, 63, 64, 65, 127, 128, 255],
+        9 => &[0, 64, 65, 127, 128, 255, 256, 320, 384, 448, 511],
+        n => panic!("{n} is not long"),
+    }
 }
 
 #[test]
@@ -161,24 +192,27 @@ fn the_vectors_follow_their_ops() {
 fn every_list_has_its_size() {
     let mut sizes = Vec::new();
     let mut counts = Vec::new();
-    for op in 0..5 {
+    for op in requests::OPS {
         let list = requests::of(op);
         let mut size = 0;
         for request in &list {
             assert_eq!(request.op, op);
             let bytes = bytes_of(request);
             assert_eq!(Request::read(&mut &bytes[..]).as_ref(), Some(request));
-            size += bytes.len();
+            size += bytes.len() + 10 + request.o;
         }
         sizes.push(size);
         counts.push(list.len());
     }
-    assert!((3_000..=3_600).contains(&counts[0]), "{counts:?}");
-    assert!((5_800..=6_700).contains(&(counts[1] + counts[3])));
-    assert!((20_000..=22_000).contains(&counts[2]), "{counts:?}");
-    assert!((400..=600).contains(&counts[4]), "{counts:?}");
-    assert!(sizes[0] + sizes[1] + sizes[3] < 8_500_000, "{sizes:?}");
-    assert!(sizes[2] < 16_000_000, "{sizes:?}");
+    assert!(sizes.iter().sum::<usize>() <= 24_000_000, "{sizes:?}");
+    let least = [3_500, 1_400, 6_000, 1_800, 450, 1_000];
+    assert!(
+        counts
+            .iter()
+            .zip(least)
+            .all(|(&count, least)| count >= least),
+        "{counts:?}"
+    );
 }
 
 #[test]
@@ -197,7 +231,7 @@ fn sheets_reach_what_they_must() {
             }
             12 => {
                 let place = usize::from(answer.place);
-                let record = &request.a[20 * place..][..20];
+                let record = &request.a[RECORD_BYTES * place..][..RECORD_BYTES];
                 let broken = broken(place, 1 << request.n, record);
                 assert!(!broken.is_empty());
                 if broken.len() == 1 {
@@ -206,44 +240,59 @@ fn sheets_reach_what_they_must() {
                         .or_default()
                         .extend(broken);
                 }
-                bits.extend((0..128).filter(|j| record[4 + j / 8] >> (j % 8) & 1 == 1));
+                bits.extend((0..8 * MASK_BYTES).filter(|j| record[4 + j / 8] >> (j % 8) & 1 == 1));
             }
             _ => {}
         }
     }
-    for n in 0..=7u16 {
+    for n in exponents() {
         for r in [0, 6, 11] {
             let possible = r < 1 << n;
             assert_eq!(good.contains(&(n, r)), possible, "good, n {n}, r {r}");
         }
-        for place in 0..1 << n {
-            let count = kinds.get(&(n, place)).map_or(0, BTreeSet::len);
-            assert!(count >= 2, "n {n}, place {place}: {count} kinds");
-        }
-        let all: BTreeSet<u8> = (0..1 << n)
-            .flat_map(|place| kinds[&(n, place)].clone())
-            .collect();
-        // N = 1 has no later position and N = 128 none past it
-        let expected: BTreeSet<u8> = (0..9)
-            .filter(|&rule| (n, rule) != (0, 7) && (n, rule) != (7, 8))
-            .collect();
-        assert_eq!(all, expected, "n {n}");
     }
-    assert_eq!(bits.len(), 128);
+    let mut of_long = BTreeSet::new();
+    for n in 0..=MOST {
+        let (places, least): (Vec<u16>, usize) = match n {
+            0..6 => ((0..1 << n).collect(), 2),
+            6 => ((0..1 << n).collect(), 1),
+            _ => (telling_places(n).to_vec(), 1),
+        };
+        let mut all = BTreeSet::new();
+        for place in places {
+            let seen = kinds.get(&(n, place)).cloned().unwrap_or_default();
+            assert!(seen.len() >= least, "n {n}, place {place}: {seen:?}");
+            all.extend(seen);
+        }
+        if n < LONG {
+            // N = 1 has no later position
+            let expected: BTreeSet<u8> = (0..9).filter(|&rule| (n, rule) != (0, 7)).collect();
+            assert_eq!(all, expected, "n {n}");
+        } else {
+            let itself = (0..1 << n).any(|i| kinds.get(&(n, i)).is_some_and(|k| k.contains(&6)));
+            assert!(itself, "n {n}: a record names itself");
+            of_long.extend(all);
+        }
+    }
+    assert!(
+        (0..6).chain([7, 8]).all(|rule| of_long.contains(&rule)),
+        "{of_long:?}"
+    );
+    assert_eq!(bits.len(), 8 * MASK_BYTES);
     assert!(buffers > 200 && buffers < list.len() / 4);
 }
 
 /// N by n where it is allowed, else by the records there are.
 fn length_of(request: &Request) -> usize {
-    if request.n <= 7 {
+    if request.n <= MOST {
         1 << request.n
     } else {
-        request.a.len() / 20
+        request.a.len() / RECORD_BYTES
     }
 }
 
 fn kinds_of(request: &Request) -> Vec<u8> {
-    let records = request.a.chunks(20).take(length_of(request));
+    let records = request.a.chunks(RECORD_BYTES).take(length_of(request));
     records.map(|record| record[0]).collect()
 }
 
@@ -282,18 +331,18 @@ fn applying(request: &Request) -> Vec<u16> {
         2 => (vec![length], vec![3 * length], 2),
         _ => (vec![length], payloads, 1),
     };
-    let bad_record = (request.a.chunks_exact(20).enumerate())
+    let bad_record = (request.a.chunks_exact(RECORD_BYTES).enumerate())
         .any(|(i, record)| !broken(i, length, record).is_empty());
     let ceiling = usize::from(request.ceiling);
     let conditions = [
-        request.n > 7 || request.a.len() != 20 * length,
+        request.n > MOST || request.a.len() != RECORD_BYTES * length,
         bad_record,
         all_frozen(request),
         !suits(r),
         request.op > 0 && !lengths.contains(&request.b.len()),
         request.op > 0 && request.b.iter().any(|&symbol| symbol > largest),
         request.op > 0 && rooms.iter().all(|&needed| request.o < needed),
-        request.op == 2 && ceiling > 63,
+        request.op == 2 && ceiling > LARGEST_CEILING,
         request.op == 2 && unknowns(request) > ceiling,
     ];
     (ORDER.into_iter().zip(conditions))
@@ -303,8 +352,8 @@ fn applying(request: &Request) -> Vec<u16> {
 }
 
 /// Each of the first so many refusals comes first, alone and before every later one, at every n
-/// where it can.
-fn hold_refusals(op: u16, count: usize, impossible: fn(u16, u16, u16) -> bool) {
+/// where it can: `seen` says of n, a refusal and a later one whether it does, where that is held.
+fn hold_refusals(op: u16, count: usize, seen: fn(u16, u16, u16) -> Option<bool>) {
     let mut alone = BTreeSet::new();
     let mut before = BTreeSet::new();
     for (request, answer, out) in answered(op) {
@@ -321,16 +370,17 @@ fn hold_refusals(op: u16, count: usize, impossible: fn(u16, u16, u16) -> bool) {
         }
         before.extend(codes.iter().map(|&code| (n, first, code)));
     }
-    for n in 0..=7 {
+    for n in 0..=MOST {
         for (at, &first) in ORDER[..count].iter().enumerate() {
-            assert!(alone.contains(&(n, first)), "n {n}: {first} alone");
+            let held = exponents().contains(&n);
+            assert!(
+                !held || alone.contains(&(n, first)),
+                "op {op}, n {n}: {first}"
+            );
             for &later in &ORDER[at + 1..count] {
-                let seen = before.contains(&(n, first, later));
-                assert_eq!(
-                    seen,
-                    !impossible(n, first, later),
-                    "n {n}: {first}, {later}"
-                );
+                let has = before.contains(&(n, first, later));
+                let expected = seen(n, first, later).unwrap_or(has);
+                assert_eq!(has, expected, "op {op}, n {n}: {first}, {later}");
             }
         }
     }
@@ -338,17 +388,23 @@ fn hold_refusals(op: u16, count: usize, impossible: fn(u16, u16, u16) -> bool) {
 
 #[test]
 fn every_refusal_in_its_order() {
-    hold_refusals(0, OF_SHEET, |_, _, _| false);
-    hold_refusals(1, OF_CODEC, |_, _, _| false);
-    // with no free position the payload needs no room
-    hold_refusals(3, OF_CODEC, |_, first, later| (first, later) == (19, 16));
-    // g is above 64 in 128 symbols alone; of one symbol, a bad one leaves none to be lost; with no
-    // free position g is 0
-    hold_refusals(2, ORDER.len(), |n, first, later| match (first, later) {
-        (17, 18) => n < 7,
-        (15, 18) => n == 0,
-        (19, 18) => true,
-        _ => false,
+    // between the shortest and the longest of the long codes, the first two
+    hold_refusals(0, OF_SHEET, |n, first, _| {
+        (exponents().contains(&n) || first < 13).then_some(true)
+    });
+    hold_refusals(1, OF_CODEC, |_, _, _| Some(true));
+    // with no free position the payload needs no room; from 64 symbols on 11 and 12 come with it
+    hold_refusals(3, OF_CODEC, |n, first, later| match (n, first, later) {
+        (_, 19, 16) => Some(false),
+        (6.., 11 | 12, 16) => None,
+        _ => Some(true),
+    });
+    // g is above the largest ceiling in the longest words alone; of one symbol, a bad one leaves none
+    // to be lost; with no free position g is 0
+    hold_refusals(2, ORDER.len(), |n, first, later| match (n, first, later) {
+        (..MOST, 17, 18) | (0, 15, 18) | (_, 19, 18) => Some(false),
+        (_, _, 18) if !exponents().contains(&n) => None,
+        _ => Some(true),
     });
 }
 
@@ -378,16 +434,24 @@ fn sheets_with_no_free_position() {
                 _ => {}
             }
         }
-        for n in 0..=7 {
-            for r in (0..=13).chain([255, 256, 262, 267, 65535]) {
+        for n in exponents() {
+            let checks: Vec<u16> = match n {
+                0..5 => (0..=13).chain([255, 256, 262, 267, 65535]).collect(),
+                _ => vec![0],
+            };
+            for r in checks {
                 assert!(refused.contains(&(n, r)), "op {op}, n {n}, r {r}");
             }
             // one symbol is the first alone, two have none between
-            let places = [&[0][..], &[0, 2], &[0, 1, 2]][usize::from(n).min(2)];
+            let places = [&[0][..], &[0, 2], &[0, 1, 2], &[]][match n {
+                0..2 => usize::from(n),
+                2..5 => 2,
+                _ => 3,
+            }];
             for &place in places {
                 assert!(bad.contains(&(n, place)), "op {op}, n {n}, place {place}");
             }
-            assert!(one_free.contains(&n), "op {op}, n {n}: K = 1");
+            assert!(n > LONG || one_free.contains(&n), "op {op}, n {n}: K = 1");
         }
     }
 }
@@ -442,11 +506,12 @@ fn hold_borders(op: u16, largest: u8) {
             );
         }
     }
-    for n in 0..=7 {
+    for n in exponents() {
         for off in [-1, 1] {
             assert!(lengths.contains(&(n, off)), "op {op}, n {n}, {off}");
         }
-        for off in -1..=2 {
+        let offs = if n < LONG { -1..=2 } else { -1..=1 };
+        for off in offs {
             assert!(rooms.contains(&(n, off)), "op {op}, n {n}, {off}");
         }
     }
@@ -498,35 +563,63 @@ fn payloads_reach_what_they_must() {
             empty.insert((request.n, request.r, answer.code));
         }
     }
-    assert_eq!(good, choices());
+    let between = [0, 6, 11].map(|r| (LONG + 1, r));
+    assert_eq!(good, choices().into_iter().chain(between).collect());
     // one symbol is free
-    assert_eq!(kinds.len(), 1 + 7 * 5);
-    for n in 0..=7 {
-        assert!(empty.contains(&(n, 0, 14)));
-        for r in [0, 6, 11, 5] {
+    let of_short = kinds.iter().filter(|&&(n, _)| n < LONG).count();
+    assert_eq!(of_short, 1 + 6 * 5);
+    let of_long: BTreeSet<u8> = (kinds.iter().filter(|&&(n, _)| n >= LONG))
+        .map(|&(_, kind)| kind)
+        .collect();
+    assert_eq!(of_long.len(), 5);
+    for n in exponents() {
+        let too_short = [0, 6, 11].iter().any(|&r| empty.contains(&(n, r, 14)));
+        assert!(n >= LONG || too_short, "n {n}");
+        let checks = if n < 6 { &[0, 6, 11, 5][..] } else { &[0] };
+        for &r in checks {
             assert!(empty.contains(&(n, r, 19)), "n {n}, r {r}");
         }
-        for r in [6, 11].into_iter().filter(|&r| r <= 1 << n) {
+        for r in [6, 11].into_iter().filter(|&r| r <= 1 << n && n < LONG) {
             assert!(empty.contains(&(n, r, 13)), "n {n}, r {r}");
         }
     }
 }
 
-#[test]
-fn every_bit_of_a_mask_decides() {
-    let mut seen = BTreeSet::new();
-    for (request, answer, out) in answered(1) {
-        if answer.code == 0 && request.n == 7 {
-            let sheet = Sheet::read(7, &request.a, request.r.into()).unwrap();
-            let u = u_of(&out[..128]);
-            let ones: Vec<usize> = (0..127).filter(|&i| u[i]).collect();
-            seen.insert((sheet.records[127].named.clone(), ones, u[127]));
+/// For each bit that a record of the longest sheet names alone, and that one names all but, whether
+/// it is 1 in a word that is kept: so the bit decides.
+fn deciding_bits(op: u16) -> [BTreeSet<usize>; 2] {
+    let mut seen: [BTreeSet<usize>; 2] = Default::default();
+    for (request, answer, out) in answered(op) {
+        if answer.code != 0 || request.n != MOST {
+            continue;
+        }
+        let word = if op == 1 { out } else { &request.b };
+        if word[..1 << MOST].contains(&2) {
+            continue;
+        }
+        let sheet = Sheet::read(request.n.into(), &request.a, request.r.into()).unwrap();
+        let u = u_of(&word[..1 << MOST]);
+        for (i, record) in sheet.records.iter().enumerate().filter(|(_, r)| r.frozen) {
+            if let &[j] = &record.named[..] {
+                seen[0].extend(u[j].then_some(j));
+            }
+            if record.named.len() + 1 == i {
+                let other = (0..i).find(|j| !record.named.contains(j));
+                seen[1].extend(other.filter(|&j| u[j]));
+            }
         }
     }
-    for j in 0..127 {
-        let others = (0..127).filter(|&i| i != j).collect();
-        assert!(seen.contains(&(vec![j], vec![j], true)), "{j} named");
-        assert!(seen.contains(&(others, vec![j], false)), "{j} not named");
+    seen
+}
+
+#[test]
+fn every_bit_of_a_mask_decides() {
+    for op in 1..=3 {
+        let [named, not_named] = deciding_bits(op);
+        for j in 0..(1 << MOST) - 1 {
+            assert!(named.contains(&j), "op {op}: {j} named");
+            assert!(not_named.contains(&j), "op {op}: {j} not named");
+        }
     }
 }
 
@@ -568,7 +661,8 @@ fn words_read_back_reach_what_they_must() {
             );
         }
     }
-    assert_eq!(zero.len(), 1 + 7 * 2);
+    let of_short = zero.iter().filter(|&&(n, _)| n < LONG);
+    assert_eq!(of_short.count(), 1 + 6 * 2);
 }
 
 /// The check lengths above 0 with every n that a good sheet can have.
@@ -586,7 +680,7 @@ fn whole_words(request: &Request, answer: &Answer, out: &[u8]) -> (u16, u16, Vec
         4 if answer.code == 0 => {
             if let Ok(numbers) = stream_numbers(&request.a, &request.c) {
                 [n, r] = [numbers.0 as u16, numbers.1 as u16];
-                let records = out.chunks(392).zip(request.b.chunks(1 << n));
+                let records = out.chunks(ANSWER_BYTES).zip(request.b.chunks(1 << n));
                 let answered = records.filter(|(record, _)| record[0] <= 2);
                 words.extend(answered.map(|(_, word)| word.to_vec()));
             }
@@ -621,25 +715,87 @@ fn whole_words_tell_the_check_from_its_misreadings() {
         }
         for (n, r) in checks() {
             for misreading in MISREADINGS {
-                let [right, wrong] = told[&(n, r, misreading)];
-                assert!(right >= 4, "op {op}, n {n}, r {r}, {misreading:?}");
-                // encode writes no word of a check misread
-                let met = if op == 1 { wrong == 0 } else { wrong >= 2 };
-                assert!(met, "op {op}, n {n}, r {r}, {misreading:?}: {wrong}");
+                let [right, wrong] = told.get(&(n, r, misreading)).copied().unwrap_or_default();
+                // the longer words to decode are damaged
+                let least = match (op, n) {
+                    (2, LONG..) => 0,
+                    (_, 6..) => 1,
+                    _ => 4,
+                };
+                assert!(right >= least, "op {op}, n {n}, r {r}, {misreading:?}");
+                // encode writes no word of a check misread; of long codes decode and read-back have
+                // words of one misreading, a stream those of each
+                let least = match (op, n) {
+                    (1, _) | (2 | 3, LONG..) => 0,
+                    (_, 6..) => 1,
+                    _ => 2,
+                };
+                assert!(
+                    wrong >= least,
+                    "op {op}, n {n}, r {r}, {misreading:?}: {wrong}"
+                );
+                assert!(op > 1 || wrong == 0);
             }
+            let any = |&m: &Misreading| told.get(&(n, r, m)).is_some_and(|told| told[1] > 0);
+            assert!(
+                MISREADINGS.iter().any(any) || op < 3,
+                "op {op}, n {n}, r {r}"
+            );
         }
     }
 }
 
+/// A word as it was decoded, alone or in a stream.
+struct Decoded<'a> {
+    n: usize,
+    r: usize,
+    sheet: &'a [u8],
+    word: &'a [u8],
+    numbers: [u16; 5],
+}
+
+/// Every word of the requests of decode and of the streams that got its verdict, or 18.
+fn decoded() -> Vec<Decoded<'static>> {
+    let mut list = Vec::new();
+    for (request, answer, _) in answered(2) {
+        list.push(Decoded {
+            n: request.n.into(),
+            r: request.r.into(),
+            sheet: &request.a,
+            word: &request.b,
+            numbers: answer.numbers(),
+        });
+    }
+    for (request, answer, out) in answered(4) {
+        let Ok((n, r, _)) = stream_numbers(&request.a, &request.c) else {
+            continue;
+        };
+        let words = request.b.chunks(1 << n);
+        for (word, record) in words.zip(out.chunks_exact(ANSWER_BYTES)) {
+            if answer.code == 0 {
+                list.push(Decoded {
+                    n,
+                    r,
+                    sheet: &request.a,
+                    word,
+                    numbers: numbers_of(record),
+                });
+            }
+        }
+    }
+    list.retain(|decoded| [0, 1, 2, 18].contains(&decoded.numbers[0]));
+    list
+}
+
 /// The code that decoding would give if the check were misread. The codewords are then the right
 /// ones, each turned over where two of the same payload differ.
-fn misread_code(request: &Request, misreading: Misreading) -> u16 {
-    let [n, r] = [request.n, request.r].map(usize::from);
-    let sheet = Sheet::read(n, &request.a, r).unwrap();
-    let payload = vec![0; sheet.k() - r];
-    let right = codeword(n, &request.a, r, &payload);
-    let wrong = word_of(&sheet, &misreading.free_bits(&payload, r));
-    let turned: Vec<u8> = (request.b.iter().zip(right.iter().zip(wrong)))
+fn misread_code(decoded: &Decoded, misreading: Misreading) -> u16 {
+    let &Decoded { n, r, sheet, .. } = decoded;
+    let read = Sheet::read(n, sheet, r).unwrap();
+    let payload = vec![0; read.k() - r];
+    let right = codeword(n, sheet, r, &payload);
+    let wrong = word_of(&read, &misreading.free_bits(&payload, r));
+    let turned: Vec<u8> = (decoded.word.iter().zip(right.iter().zip(wrong)))
         .map(|(&symbol, (right, wrong))| {
             if symbol == 2 {
                 2
@@ -648,7 +804,7 @@ fn misread_code(request: &Request, misreading: Misreading) -> u16 {
             }
         })
         .collect();
-    dense::agreeing(&sheet, r, &turned).map_or(2, |found| found.d.min(1) as u16)
+    dense::agreeing(&read, r, &turned).map_or(2, |found| found.d.min(1) as u16)
 }
 
 #[test]
@@ -656,13 +812,14 @@ fn damaged_words_tell_the_check_from_its_misreadings() {
     // inconsistent with some symbols lost, and unique or ambiguous if the check were misread
     let mut told: BTreeMap<(u16, u16, Misreading), usize> = BTreeMap::new();
     let mut codes = BTreeSet::new();
-    for (request, answer, _) in answered(2) {
-        if answer.code == 2 && request.r > 0 && request.b.contains(&2) {
+    for decoded in decoded() {
+        let (n, r) = (decoded.n as u16, decoded.r as u16);
+        if decoded.numbers[0] == 2 && r > 0 && decoded.word.contains(&2) {
             for misreading in MISREADINGS {
-                let code = misread_code(request, misreading);
+                let code = misread_code(&decoded, misreading);
                 if code < 2 {
-                    *told.entry((request.n, request.r, misreading)).or_default() += 1;
-                    codes.insert((request.r, misreading, code));
+                    *told.entry((n, r, misreading)).or_default() += 1;
+                    codes.insert((r, misreading, code));
                 }
             }
         }
@@ -670,7 +827,8 @@ fn damaged_words_tell_the_check_from_its_misreadings() {
     for (n, r) in checks() {
         for misreading in MISREADINGS {
             let count = told.get(&(n, r, misreading)).copied().unwrap_or(0);
-            assert!(count >= 2, "n {n}, r {r}, {misreading:?}: {count}");
+            let least = if n < 6 { 2 } else { 1 };
+            assert!(count >= least, "n {n}, r {r}, {misreading:?}: {count}");
         }
     }
     assert_eq!(codes.len(), 2 * MISREADINGS.len() * 2, "{codes:?}");
@@ -678,7 +836,8 @@ fn damaged_words_tell_the_check_from_its_misreadings() {
 
 #[test]
 fn zeros_reach_what_they_must() {
-    let no_constant = |request: &Request| request.a.chunks(20).all(|record| record[1] == 0);
+    let no_constant =
+        |request: &Request| request.a.chunks(RECORD_BYTES).all(|record| record[1] == 0);
     // payloads of zeros, and such as begin with a zero and have a one
     let mut payloads = BTreeSet::new();
     for (request, ..) in answered(1).iter().filter(|(_, answer, _)| answer.code == 0) {
@@ -698,10 +857,17 @@ fn zeros_reach_what_they_must() {
         }
     }
     for (n, r) in choices() {
-        // one bit of payload is all there is in one symbol
-        let both = if n == 0 { &[true][..] } else { &[true, false] };
-        for &zero in both {
-            assert!(payloads.contains(&(n, r, zero)), "n {n}, r {r}, {zero}");
+        // one bit of payload is all there is in one symbol; of long codes one kind is enough
+        let seen = [true, false].map(|zero| payloads.contains(&(n, r, zero)));
+        let expected = match n {
+            0 => [true, false],
+            LONG.. if r == 0 || seen[0] => seen,
+            LONG.. => [false, true],
+            _ => [true, true],
+        };
+        assert_eq!(seen, expected, "n {n}, r {r}");
+        if n >= LONG {
+            continue;
         }
         for op in [2, 3] {
             let whole = |code| words.contains(&(op, n, r, false, code));
@@ -710,18 +876,21 @@ fn zeros_reach_what_they_must() {
         let damaged = |code| words.contains(&(2, n, r, true, code));
         assert!(r == 0 || damaged(2), "n {n}, r {r}");
     }
+    for n in [LONG, MOST] {
+        assert!(words.contains(&(2, n, 0, false, 0)), "n {n}");
+    }
 }
 
 #[test]
 fn bench_rows_are_decoded() {
-    let mut check = vec![0; 160];
+    let mut check = vec![0; 8 * RECORD_BYTES];
     check[0] = 1;
     let mut refused = check.clone();
-    refused[20] = 1;
-    let mut frozen = vec![0; 20];
+    refused[RECORD_BYTES] = 1;
+    let mut frozen = vec![0; RECORD_BYTES];
     frozen[..2].copy_from_slice(&[1, 1]);
-    let free = vec![0; 20];
-    let pair = vec![0; 40];
+    let free = vec![0; RECORD_BYTES];
+    let pair = vec![0; 2 * RECORD_BYTES];
     let e = sheet_e();
     for (sheet, r, ceiling, word, expected) in [
         (&e, 0, 63, "01111000", [0, 0, 0, 4, 0]),
@@ -760,8 +929,8 @@ fn verdicts_reach_what_they_must() {
     let mut verdicts: BTreeMap<(u16, u16, u16), usize> = BTreeMap::new();
     let mut kinds = BTreeSet::new();
     let mut dimensions = BTreeSet::new();
-    let mut patterns: [BTreeSet<Vec<bool>>; 8] = Default::default();
-    let mut recovered = [0; 8];
+    let mut patterns: [BTreeSet<Vec<bool>>; LARGEST_EXPONENT + 1] = Default::default();
+    let mut recovered = [0; LARGEST_EXPONENT + 1];
     let mut settled = 0;
     for (request, answer, out) in answered(2) {
         if answer.code > 2 {
@@ -771,15 +940,12 @@ fn verdicts_reach_what_they_must() {
         let sheet = Sheet::read(n, &request.a, request.r.into()).unwrap();
         let lost: Vec<bool> = request.b.iter().map(|&symbol| symbol == 2).collect();
         let losses = lost.iter().filter(|&&lost| lost).count();
-        let key = (request.n, request.r, answer.code);
-        *verdicts.entry(key).or_default() += 1;
         kinds.extend(
             kinds_of_sheet(&sheet)
                 .into_iter()
                 .map(|kind| (n, answer.code, kind)),
         );
         if answer.code < 2 {
-            dimensions.insert(answer.d);
             let open = out[..1 << n].iter().filter(|&&symbol| symbol == 2).count();
             recovered[n] += usize::from(answer.code == 0 && answer.g > 0);
             settled += usize::from(answer.code == 1 && open < losses);
@@ -787,14 +953,22 @@ fn verdicts_reach_what_they_must() {
         }
         patterns[n].insert(lost);
     }
-    for (n, r) in choices() {
+    for decoded in decoded() {
+        let key = (decoded.n as u16, decoded.r as u16, decoded.numbers[0]);
+        *verdicts.entry(key).or_default() += 1;
+        dimensions.insert(decoded.numbers[4]);
+    }
+    let between = [0, 6, 11].map(|r| (LONG + 1, r));
+    for (n, r) in choices().into_iter().chain(between) {
         for code in 0..3 {
             let count = verdicts.get(&(n, r, code)).copied().unwrap_or(0);
             // one symbol is free and has no rule to break
             let (least, most) = match (n, code) {
                 (0, 2) => (0, 0),
                 (0, _) => (2, usize::MAX),
-                _ => (20, usize::MAX),
+                (..4, _) => (10, usize::MAX),
+                _ if exponents().contains(&n) => (3, usize::MAX),
+                _ => (1, usize::MAX),
             };
             assert!(
                 (least..=most).contains(&count),
@@ -802,16 +976,27 @@ fn verdicts_reach_what_they_must() {
             );
         }
     }
-    assert_eq!(kinds.len(), 2 + 7 * 3 * 5);
-    assert!((0..=20).all(|d| dimensions.contains(&d)), "{dimensions:?}");
-    assert!(dimensions.last() > Some(&50), "{dimensions:?}");
-    for (n, patterns) in patterns.iter().enumerate() {
+    let long = usize::from(LONG);
+    assert_eq!(
+        kinds.iter().filter(|&&(n, ..)| n < long).count(),
+        2 + 6 * 3 * 5
+    );
+    let of_long: BTreeSet<_> = (kinds.iter().filter(|&&(n, ..)| n >= long))
+        .map(|&(_, code, kind)| (code, kind))
+        .collect();
+    assert_eq!(of_long.len(), 3 * 5, "{of_long:?}");
+    let wanted = (0..=12).chain([62, 63, 64, 65, 128, 192, 254, 255]);
+    for d in wanted {
+        assert!(dimensions.contains(&d), "{d}: {dimensions:?}");
+    }
+    for n in exponents().into_iter().map(usize::from) {
+        let patterns = &patterns[n];
         assert!([true, false]
             .map(|lost| vec![lost; 1 << n])
             .iter()
             .all(|all| patterns.contains(all)));
         assert!(n > 3 || patterns.len() == 1 << (1 << n), "n {n}");
-        let least = [0, 5, 100][n.min(2)];
+        let least = [0, 5, 50, 50, 50, 25, 10, 5, 5, 5][n];
         assert!(recovered[n] >= least, "n {n}: {recovered:?}");
     }
     assert!(settled > 300, "{settled}");
@@ -820,43 +1005,272 @@ fn verdicts_reach_what_they_must() {
 #[test]
 fn ceilings_reach_their_edges() {
     let mut edges = BTreeSet::new();
-    let mut long = [0; 8];
     let mut largest = BTreeSet::new();
     for (request, answer, _) in answered(2) {
-        let n = usize::from(request.n);
         match answer.code {
             17 => {
-                edges.insert((n, 17, i32::from(request.ceiling)));
+                edges.insert((request.n, 17, i32::from(request.ceiling)));
             }
             0..=2 | 18 => {
                 let off = i32::from(request.ceiling) - i32::from(answer.g);
-                edges.insert((n, if answer.code == 18 { 18 } else { 0 }, off));
+                edges.insert((request.n, if answer.code == 18 { 18 } else { 0 }, off));
                 largest.insert((request.ceiling, answer.g, answer.code == 18));
-                long[n] += 1;
             }
             _ => {}
         }
     }
-    for n in 0..=7 {
-        for edge in [(17, 64), (17, 65535), (18, -1), (0, 0), (0, 1)] {
-            assert!(edges.contains(&(n, edge.0, edge.1)), "n {n}, {edge:?}");
+    let most = LARGEST_CEILING as u16;
+    for n in 0..=MOST {
+        let mut wanted = vec![(17, i32::from(most) + 1), (18, -1), (0, 0)];
+        if n < LONG {
+            wanted.extend([(17, 65535), (0, 1)]);
+        }
+        for (code, off) in wanted {
+            assert!(edges.contains(&(n, code, off)), "n {n}, {code}, {off}");
         }
     }
     for (ceiling, g) in [
         (0, 0),
         (0, 1),
-        (62, 62),
-        (62, 63),
-        (63, 63),
-        (63, 64),
-        (63, 128),
+        (most, most),
+        (most, most + 1),
+        (most, 1 << MOST),
     ] {
         assert!(
             largest.contains(&(ceiling, g, g > ceiling)),
             "{ceiling}, {g}"
         );
     }
-    assert!(long[6] >= 1_500 && long[7] >= 1_500, "{long:?}");
+}
+
+/// The counts of unknowns on both sides of each multiple of 64, and at the ends.
+fn borders() -> Vec<u16> {
+    let mut list = vec![0, 1];
+    for middle in [64, 128, 192] {
+        list.extend(middle - 2..=middle + 2);
+    }
+    list.extend(252..=255);
+    list
+}
+
+/// Whether a word of g unknowns can have this verdict: unique needs an equation for each, from the
+/// symbols that were read, as many as the others, and the check; the check ties r unknowns; and no
+/// symbol is left to contradict where all are lost.
+fn possible(n: u16, r: u16, g: u16, verdict: u16) -> bool {
+    match verdict {
+        0 => 2 * g <= (1 << n) + r,
+        1 => g > r,
+        _ => g < 1 << n,
+    }
+}
+
+#[test]
+fn unknowns_on_both_sides_of_each_word() {
+    let mut alone = BTreeSet::new();
+    let mut streamed = BTreeSet::new();
+    let mut refused = BTreeSet::new();
+    for (request, answer, _) in answered(2) {
+        match answer.code {
+            0..=2 => {
+                alone.insert((request.n, request.r, answer.g, answer.code));
+            }
+            18 => {
+                refused.insert((request.n, answer.g));
+            }
+            _ => {}
+        }
+    }
+    for decoded in decoded() {
+        let [code, _, g, ..] = decoded.numbers;
+        streamed.insert((decoded.n as u16, decoded.r as u16, g, code));
+    }
+    for n in LONG..=MOST {
+        for g in borders().into_iter().filter(|&g| g <= 1 << n) {
+            let near = [0, 63].contains(&(g % 64));
+            let mut seen = 0;
+            for code in 0..3 {
+                for r in [0, 6, 11] {
+                    if !possible(n, r, g, code) {
+                        continue;
+                    }
+                    let has = alone.contains(&(n, r, g, code));
+                    seen += usize::from(has);
+                    // in the shortest of the long codes under every check length
+                    assert!(has || !near || n > LONG, "n {n}, r {r}, g {g}, {code}");
+                    // in streams of the longest at every count under every check length
+                    let has = streamed.contains(&(n, r, g, code));
+                    assert!(has || n < MOST, "stream, r {r}, g {g}, {code}");
+                }
+                let has = [0, 6, 11].iter().any(|&r| alone.contains(&(n, r, g, code)));
+                let can = [0, 6, 11].iter().all(|&r| possible(n, r, g, code));
+                assert!(has || !near || !can, "n {n}, g {g}, {code}");
+            }
+            assert!(seen > 0, "n {n}, g {g}");
+        }
+    }
+    for (n, g) in [(8, 256), (9, 256), (9, 512)] {
+        assert!(refused.contains(&(n, g)), "n {n}, g {g}");
+    }
+}
+
+/// The requests of an op whose sheet is of N = 2^n old records.
+fn old_sheets(op: u16, n: u16) -> impl Iterator<Item = &'static Answered> {
+    let length = OLD.record_bytes() << n;
+    (answered(op).iter()).filter(move |(request, ..)| request.a.len() == length)
+}
+
+#[test]
+fn old_sheets_handed_in_directly() {
+    for n in 0..=OLD.largest_exponent as u16 {
+        for op in 0..4 {
+            let mut kept = BTreeSet::new();
+            for (request, answer, out) in old_sheets(op, n) {
+                assert_eq!(answer, &Answer::code(11));
+                assert!(out.iter().all(|&byte| byte == 165));
+                if request.n == n {
+                    let sheet = OLD.read(n.into(), &request.a).ok();
+                    kept.extend(sheet.map(|sheet| sheet.k() > 0));
+                }
+            }
+            assert_eq!(
+                kept.len(),
+                2,
+                "op {op}, n {n}: with a free position and without"
+            );
+        }
+        let mut read = 0;
+        for (request, answer, out) in old_sheets(4, n) {
+            assert_eq!(answer, &Answer::code(0));
+            assert_eq!(out[..ANSWER_BYTES], lone(11));
+            read += usize::from(OLD.read(n.into(), &request.a).is_ok() && request.b.len() > 1 << n);
+        }
+        assert!(read >= 3, "n {n}");
+    }
+}
+
+#[test]
+fn conversions_reach_what_they_must() {
+    let size = OLD.record_bytes();
+    let most = OLD.largest_exponent as u16;
+    let mut kinds: BTreeMap<(u16, u16), BTreeSet<u8>> = BTreeMap::new();
+    let mut free = BTreeSet::new();
+    let mut rooms = BTreeSet::new();
+    let mut lengths = BTreeSet::new();
+    let mut refusals = BTreeSet::new();
+    let mut large = BTreeSet::new();
+    let mut new_layout = BTreeSet::new();
+    let mut allowed = BTreeSet::new();
+    let mut barred = BTreeSet::new();
+    for (request, answer, out) in answered(5) {
+        let low = request.n % 8;
+        let needed = RECORD_BYTES << low;
+        let wrong_length = request.n > most || request.a.len() != size << request.n;
+        let records = || request.a.chunks_exact(size).enumerate();
+        let bad = records().position(|(i, record)| !broken(i, 1 << low, record).is_empty());
+        let short = request.o < needed;
+        let applying = [(11, wrong_length), (12, bad.is_some()), (16, short)];
+        let applying: Vec<u16> = (applying.into_iter())
+            .filter(|&(_, applies)| applies)
+            .map(|(code, _)| code)
+            .collect();
+        refusals.insert((low, applying.clone()));
+        let expected = match applying.first() {
+            Some(12) => Answer::at(12, bad.unwrap()),
+            Some(&code) => Answer::code(code),
+            None => Answer::code(0),
+        };
+        assert_eq!(answer, &expected);
+        let written = if answer.code == 0 { needed } else { 0 };
+        assert!(out[written..].iter().all(|&byte| byte == 165));
+        match answer.code {
+            0 => {
+                // each record, then 48 zeros
+                for ((_, old), new) in records().zip(out.chunks(RECORD_BYTES)) {
+                    assert_eq!(new[..size], *old);
+                    assert!(new[size..].iter().all(|&byte| byte == 0));
+                }
+                let sheet = OLD.read(request.n.into(), &request.a).unwrap();
+                free.insert((low, sheet.k().min(2)));
+                for record in sheet.records {
+                    allowed.extend(record.named);
+                }
+            }
+            12 => {
+                let place = usize::from(answer.place);
+                let record = &request.a[size * place..][..size];
+                let broken = broken(place, 1 << low, record);
+                let named =
+                    (0..8 * OLD.mask_bytes).filter(|j| record[4 + j / 8] >> (j % 8) & 1 == 1);
+                let named: Vec<usize> = named.collect();
+                if let (1, &[j]) = (broken.len(), &named[..]) {
+                    barred.insert((j, record[0]));
+                }
+                kinds.entry((low, answer.place)).or_default().extend(broken);
+            }
+            16 => (),
+            _ if request.n > most => {
+                large.insert(request.n);
+            }
+            _ => {
+                let off = request.a.len() as isize - (size << request.n) as isize;
+                lengths.insert((request.n, off));
+                new_layout.extend((request.a.len() == needed).then_some(request.n));
+            }
+        }
+        if [0, 16].contains(&answer.code) {
+            rooms.insert((low, request.o as isize - needed as isize));
+        }
+    }
+    for n in 0..=most {
+        for codes in [
+            &[][..],
+            &[11],
+            &[12],
+            &[16],
+            &[11, 12],
+            &[11, 16],
+            &[12, 16],
+            &[11, 12, 16],
+        ] {
+            assert!(refusals.contains(&(n, codes.to_vec())), "n {n}, {codes:?}");
+        }
+        for k in 0..=2.min(1 << n) {
+            assert!(free.contains(&(n, k)), "n {n}, K {k}");
+        }
+        for off in [-1, 0, 1] {
+            assert!(rooms.contains(&(n, off)), "n {n}, room {off}");
+            assert!(
+                off == 0 || lengths.contains(&(n, off)),
+                "n {n}, length {off}"
+            );
+        }
+        assert!(new_layout.contains(&n), "n {n}");
+        let places = match n {
+            0..LONG => (0..1 << n).collect(),
+            _ => telling_places(n).to_vec(),
+        };
+        let mut all = BTreeSet::new();
+        for place in places {
+            let seen = kinds.get(&(n, place)).cloned().unwrap_or_default();
+            assert!(!seen.is_empty(), "n {n}, place {place}");
+            all.extend(seen);
+        }
+        // N = 1 has no later position and the longest none past it
+        let expected: BTreeSet<u8> = (0..9)
+            .filter(|&rule| (n, rule) != (0, 7) && (n, rule) != (most, 8))
+            .collect();
+        assert_eq!(all, expected, "n {n}");
+        assert!(large.contains(&(64 + n)), "64 + {n}");
+    }
+    assert!([8, 9, 65535].iter().all(|n| large.contains(n)), "{large:?}");
+    let bits = 8 * OLD.mask_bytes;
+    assert_eq!(allowed, (0..bits - 1).collect());
+    for j in 0..bits {
+        assert!(
+            [0, 1].iter().all(|&kind| barred.contains(&(j, kind))),
+            "{j}"
+        );
+    }
 }
 
 #[test]
@@ -866,22 +1280,22 @@ fn streams_reach_what_they_must() {
     let mut rests = BTreeSet::new();
     let mut rooms = BTreeSet::new();
     let mut lengths = BTreeSet::new();
-    let mut most = [0; 8];
+    let mut most = [0; LARGEST_EXPONENT + 1];
     for (request, answer, out) in answered(4) {
         codes.insert(answer.code);
-        let n = (0..8).find(|n| request.a.len() == 20 << n);
+        let n = (0..=LARGEST_EXPONENT).find(|n| request.a.len() == RECORD_BYTES << n);
         let count = match n {
             Some(n) if request.c.len() == 2 => request.b.len().div_ceil(1 << n),
             _ => 1,
         };
-        let room = request.o as isize - 392 * count as isize;
+        let room = request.o as isize - (ANSWER_BYTES * count) as isize;
         rooms.insert(room);
         lengths.insert((n, request.c.len(), request.b.is_empty()));
         assert_eq!(answer, &Answer::code(if room < 0 { 16 } else { 0 }));
-        let written = if room < 0 { 0 } else { 392 * count };
+        let written = if room < 0 { 0 } else { ANSWER_BYTES * count };
         assert!(out[written..].iter().all(|&byte| byte == 165));
-        let written: Vec<&[u8]> = out[..written].chunks(392).collect();
-        records.extend(written.iter().map(|record| (n, record[0])));
+        let written: Vec<&[u8]> = out[..written].chunks(ANSWER_BYTES).collect();
+        records.extend(written.iter().map(|record| (n, numbers_of(record)[0])));
         if let Some(n) = n {
             rests.insert((n, request.b.len() % (1 << n), room < 0));
             let different: BTreeSet<&[u8]> = written.into_iter().collect();
@@ -891,8 +1305,13 @@ fn streams_reach_what_they_must() {
     assert_eq!(codes, BTreeSet::from([0, 16]));
     assert!([-1, 0, 1, 3].iter().all(|room| rooms.contains(room)));
     assert!(records.contains(&(None, 11)));
-    for n in 0..8 {
-        for code in [0, 1, 2, 12, 13, 14, 15, 17, 18, 19] {
+    for n in 0..=LARGEST_EXPONENT {
+        let codes = match n {
+            8 => &[0, 1, 2, 18][..],
+            7 | 9 => &[0, 1, 2, 12, 14, 18, 19],
+            _ => &[0, 1, 2, 12, 13, 14, 15, 18, 19],
+        };
+        for &code in codes {
             // one symbol is free and has no rule to break, and it cannot be cut off
             let possible = (n, code) != (0, 2) && (n, code) != (0, 14);
             assert_eq!(
@@ -901,16 +1320,20 @@ fn streams_reach_what_they_must() {
                 "n {n}, {code}"
             );
         }
+        // a ceiling of one byte is never too large
+        assert!(!records.contains(&(Some(n), 17)));
         for choice in 0..=3 {
             for empty in [false, true] {
+                let held = n < 7
+                    || (n != 8 && [(1, false), (3, true), (2, true)].contains(&(choice, empty)));
                 assert!(
-                    lengths.contains(&(Some(n), choice, empty)),
+                    !held || lengths.contains(&(Some(n), choice, empty)),
                     "n {n}, {choice}"
                 );
             }
         }
         assert!(n > 4 || (0..1 << n).all(|rest| rests.contains(&(n, rest, false))));
-        assert!(most[n] >= if n == 0 { 3 } else { 6 }, "{most:?}");
+        assert!(most[n] >= if n == 0 { 3 } else { 5 }, "{most:?}");
     }
     for choice in [1, 2] {
         assert!([true, false]
@@ -924,11 +1347,6 @@ fn streams_reach_what_they_must() {
     assert_eq!(rows.map(|row| row.1.code).collect::<Vec<_>>(), [16, 0, 0]);
 }
 
-/// A record of a code with the rest 0 and no strips.
-fn lone(code: u8) -> Vec<u8> {
-    [&[code, 0, 0, 0, 0, 0, 0, 0][..], &[255; 384]].concat()
-}
-
 #[test]
 fn streams_of_sheets_with_no_free_position() {
     let mut one_record = BTreeSet::new();
@@ -936,39 +1354,43 @@ fn streams_of_sheets_with_no_free_position() {
     let mut checks = BTreeSet::new();
     let mut short = BTreeSet::new();
     for (request, answer, out) in answered(4) {
-        let count = request.a.len() / 20;
-        if count == 0 || request.a.chunks(20).any(|record| record[0] != 1) {
+        let count = request.a.len() / RECORD_BYTES;
+        if count == 0 || request.a.chunks(RECORD_BYTES).any(|record| record[0] != 1) {
             continue;
         }
         let n = count.ilog2();
-        let bad = (request.a.chunks_exact(20).enumerate())
+        let bad = (request.a.chunks_exact(RECORD_BYTES).enumerate())
             .any(|(i, record)| !broken(i, 1 << n, record).is_empty());
         if answer.code == 16 {
             short.insert(n);
-        } else if request.a.len() != 20 << n {
-            assert_eq!(out[..392], lone(11));
+        } else if request.a.len() != RECORD_BYTES << n {
+            assert_eq!(out[..ANSWER_BYTES], lone(11));
             one_record.insert((n, 11, request.b.is_empty()));
         } else if request.c.len() != 2 {
-            assert_eq!(out[..392], lone(13));
+            assert_eq!(out[..ANSWER_BYTES], lone(13));
             one_record.insert((n, 13, request.b.is_empty()));
         } else {
             let words = request.b.len().div_ceil(1 << n);
             let first = if bad { 12 } else { 19 };
-            for record in out[..392 * words].chunks(392) {
-                assert_eq!(record[0], first);
+            for record in out[..ANSWER_BYTES * words].chunks(ANSWER_BYTES) {
+                assert_eq!(numbers_of(record)[0], first);
                 assert!(bad || record == lone(19));
             }
             records.insert((n, first, words, request.b.len().is_multiple_of(1 << n)));
             checks.insert((n, first, [0, 6, 11].contains(&request.c[0])));
         }
     }
-    for n in 0..8 {
-        assert!(short.contains(&n));
+    assert!(short.contains(&0) && short.contains(&3));
+    for n in 0..7 {
         assert!(one_record.contains(&(n, 11, false)) && one_record.contains(&(n, 13, false)));
         assert!(one_record.contains(&(n, 13, true)));
         // one symbol cannot be cut off
-        assert!(records.contains(&(n, 19, 4, n == 0)) && records.contains(&(n, 19, 0, true)));
-        assert!(records.contains(&(n, 12, 4, n == 0)));
+        assert!(records.contains(&(n, 19, 3, n == 0)) && records.contains(&(n, 19, 0, true)));
+        assert!(records.contains(&(n, 12, 3, n == 0)));
+        assert!(checks.contains(&(n, 19, true)) && checks.contains(&(n, 19, false)));
+    }
+    for n in [7, 9] {
+        assert!(records.contains(&(n, 19, 3, false)) && records.contains(&(n, 12, 3, false)));
         assert!(checks.contains(&(n, 19, true)) && checks.contains(&(n, 19, false)));
     }
 }

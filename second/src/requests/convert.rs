@@ -136,9 +136,9 @@ fn first_bad_places() -> Vec<Request> {
     for n in 0..=OLD.largest_exponent {
         for (at, place) in telling_places(1 << n).into_iter().enumerate() {
             let mut faults = faults_at(OLD, 1 << n, place);
-            let turn = at % faults.len();
+            let turn = 5 * at % faults.len();
             faults.rotate_left(turn);
-            let kinds = [12, 12, 12, 12, 3, 2, 1, 2][n].min(faults.len());
+            let kinds = [12, 12, 12, 12, 3, 2, 1, 4][n].min(faults.len());
             for &fault in &faults[..kinds] {
                 let mut sheet = any_old(&mut rng, n);
                 spoil(&mut rng, OLD, &mut sheet, place, fault);
@@ -222,7 +222,7 @@ fn refusal_order() -> Vec<Request> {
                         sheet.pop();
                     }
                     let past = if length_fault == 2 { 8 } else { 0 };
-                    let room = if length_fault == 0 { n } else { n.min(4) };
+                    let room = if length_fault < 2 { n } else { n.min(4) };
                     let o = needed(room) - usize::from(short);
                     list.push(convert(&mut rng, n + past, sheet, o));
                 }

@@ -7,10 +7,10 @@ use super::parts::{
     checked_codes, choices, every_none_free, exponents, few_choices, few_telling_words,
     first_middle_last, none_free_words, room, suited, symbols, Code, CHECKS, LONG,
 };
-use super::unknowns::{self, count, lost_at, lost_to, Case};
+use super::unknowns::{self, count, lost_at, lost_to};
 use crate::code::ERASED;
 use crate::limits::{LARGEST_CEILING, LARGEST_EXPONENT};
-use crate::make::{bits, bytes, damaged, every_word, STYLES};
+use crate::make::{bits, bytes, damaged, every_word, MISREADINGS, STYLES};
 use crate::protocol::Request;
 use crate::rng::Rng;
 use crate::sheet::Record;
@@ -30,7 +30,9 @@ pub fn all() -> Vec<Request> {
         every_loss(),
         every_burst(),
         any_words(),
+        each_verdict(),
         ones_in_front(),
+        ambiguous_if_misread(),
         all_zero(),
         by_single_bits(),
     ]
@@ -50,7 +52,7 @@ fn good(rng: &mut Rng, code: &Code) -> Request {
 
 /// All symbols lost under a ceiling above the largest, its room exact.
 fn all_lost(rng: &mut Rng, code: &Code) -> Request {
-    let ceiling = LARGEST_CEILING + rng.pick(&[1, 1, 2, 257]);
+    let ceiling = LARGEST_CEILING + rng.pick(&[1, 1, 2]);
     let word = vec![ERASED; code.length()];
     decode(code, word, ceiling, 3 * code.length())
 }
@@ -97,30 +99,38 @@ fn bench() -> Vec<Request> {
 }
 
 /// Sets of faults together with a ceiling below g (18) or above the largest (17): of short codes all
-/// sets, and from 16 symbols on those of one fault or none; of long codes no fault with 18. With 19
-/// there is no g above a ceiling.
+/// sets, and from 16 symbols on those of one fault or none. Of the longest both at once without a
+/// fault, and 18 with 11, 12 and none. With 19 there is no g above a ceiling.
 fn ceiling_sets() -> Vec<Request> {
     let mut rng = Rng::new(210);
     let mut list = Vec::new();
-    for n in 0..=LARGEST_EXPONENT {
+    for n in exponents() {
         let rounds = if n < 2 { 3 } else { 1 };
         let sets = match n {
             0..4 => faults::sets(n),
             4..=LONG => faults::singles(),
-            _ => vec![Vec::new()],
+            _ => vec![Vec::new(), vec![11], vec![12]],
         };
         for set in (0..rounds).flat_map(|_| sets.clone()) {
             let r = rng.pick(&CHECKS);
-            let code = Code::any(&mut rng, n, suited(n, r));
+            let code = match n {
+                ..=LONG => Code::any(&mut rng, n, suited(n, r)),
+                _ => Code::new(&mut rng, n, r, 1 << n, STYLES[0]),
+            };
             let lost = vec![ERASED; 1 << n];
             let g = count(&code, &lost);
-            let mut low = decode(&code, lost, rng.below(g.min(LARGEST_CEILING + 1)), 3 << n);
+            // a bad symbol is one that is not lost
+            let most = if set.contains(&15) { 1 } else { g };
+            let ceiling = rng.below(most.min(LARGEST_CEILING + 1));
+            let mut low = decode(&code, lost, ceiling, 3 << n);
             if !set.contains(&19) {
                 list.push(faults::put(&mut rng, low.clone(), &set, 2));
             }
-            let above = LARGEST_CEILING as u16 + 1;
-            low.ceiling = rng.pick(&[above, above, above + 1, 512, 65535]);
-            list.push(faults::put(&mut rng, low, &set, 2));
+            if n <= LONG || set.is_empty() {
+                let above = LARGEST_CEILING as u16 + 1;
+                low.ceiling = rng.pick(&[above, above, above + 1, 511, 65535]);
+                list.push(faults::put(&mut rng, low, &set, 2));
+            }
         }
     }
     list
@@ -138,7 +148,7 @@ fn at_its_ceilings(rng: &mut Rng, code: &Code, word: &[u8]) -> Vec<Request> {
         .collect()
 }
 
-/// Codewords, and every third time words off the code, under ceilings about their g.
+/// Codewords, and every other time words off the code, under ceilings about their g.
 fn ceilings() -> Vec<Request> {
     let mut rng = Rng::new(211);
     let mut list = Vec::new();
@@ -146,7 +156,7 @@ fn ceilings() -> Vec<Request> {
         for round in (0..6).step_by([1, 1, 1, 2, 3, 6, 6][n]) {
             let code = Code::any(&mut rng, n, r);
             let mut word = code.codeword(&mut rng);
-            if round % 3 == 2 {
+            if round % 2 == 1 {
                 word[rng.below(1 << n)] ^= 1;
             }
             let word = damaged(&mut rng, &word, round + 1);
@@ -157,32 +167,34 @@ fn ceilings() -> Vec<Request> {
 }
 
 /// Words of each verdict at the borders of g, under the ceiling g or the largest; one in six also
-/// under g - 1 or above the largest. Every check length next to a border in the shortest of the long
-/// codes; else one for each g and verdict; far from a border fewer in the others.
+/// under g - 1 or above the largest. Next to a border every verdict, under every check length in the
+/// shortest of the long codes and else under one; further off one verdict and check length.
 fn unknowns_at_borders() -> Vec<Request> {
     let mut rng = Rng::new(212);
     let mut list = Vec::new();
     for n in LONG..=LARGEST_EXPONENT {
-        for (turn, case) in unknowns::every_case(n).into_iter().enumerate() {
-            let Case { r, g, verdict } = case;
+        for (turn, g) in unknowns::borders(n).into_iter().enumerate() {
             let near = [0, 63].contains(&(g % 64));
-            let turned = CHECKS[(g + usize::from(verdict)) % 3] == r;
-            let kept = match n {
-                LONG => turned || near,
-                _ => turned && (near || (g + n) % 3 == usize::from(verdict)),
-            };
-            if !kept {
-                continue;
+            let mut cases = unknowns::cases(n, g);
+            if !near {
+                let case = turn % cases.len();
+                cases = vec![cases[case]];
+            } else if n > LONG {
+                let mut kept = [false; 3];
+                cases.rotate_left(turn % 3);
+                cases.retain(|case| !std::mem::replace(&mut kept[usize::from(case.verdict)], true));
             }
-            let (code, word) = unknowns::word(&mut rng, n, r, g, verdict, turn);
-            let mut ceilings = vec![rng.pick(&[g, LARGEST_CEILING])];
-            match list.len() % 12 {
-                0 => ceilings.push(g.max(1) - 1),
-                6 => ceilings.push(LARGEST_CEILING + 1),
-                _ => {}
-            }
-            for ceiling in ceilings {
-                list.push(decode_in_room(&mut rng, &code, word.clone(), ceiling));
+            for case in cases {
+                let (code, word) = unknowns::word(&mut rng, n, g, case, turn + list.len());
+                let mut ceilings = vec![rng.pick(&[g, LARGEST_CEILING])];
+                match list.len() % 12 {
+                    0 => ceilings.push(g.max(1) - 1),
+                    6 => ceilings.push(LARGEST_CEILING + 1),
+                    _ => {}
+                }
+                for ceiling in ceilings {
+                    list.push(decode_in_room(&mut rng, &code, word.clone(), ceiling));
+                }
             }
         }
     }
@@ -336,8 +348,8 @@ fn any_code(rng: &mut Rng, n: usize, r: usize) -> Code {
 /// word at random.
 fn any_word(rng: &mut Rng, code: &Code) -> Vec<u8> {
     let flips = match rng.below(9) {
-        0..=4 => 0,
-        5 => 1,
+        0..=3 => 0,
+        4..=5 => 1,
         6 => rng.within(2, 4),
         7 => return code.without_check().codeword(rng),
         _ => return bits(rng, code.length()),
@@ -391,7 +403,7 @@ fn any_ceiling(rng: &mut Rng, code: &Code, word: &[u8]) -> usize {
 fn any_words() -> Vec<Request> {
     let mut rng = Rng::new(216);
     let mut list = Vec::new();
-    let counts = [30, 300, 400, 400, 180, 90, 50, 12, 0, 0];
+    let counts = [30, 300, 300, 300, 150, 57, 21, 6, 0, 0];
     for (n, count) in counts.into_iter().enumerate() {
         for round in 0..count {
             let code = any_code(&mut rng, n, suited(n, CHECKS[round % 3]));
@@ -404,18 +416,78 @@ fn any_words() -> Vec<Request> {
     list
 }
 
-/// Words by which the ones in front of the free bits are seen: with some losses and, of short codes,
-/// whole.
+/// Words of short codes of each verdict, about half of the positions free: codewords with losses, and
+/// with a symbol turned over.
+fn each_verdict() -> Vec<Request> {
+    let mut rng = Rng::new(225);
+    let mut list = Vec::new();
+    for (n, r) in choices() {
+        if !(1..LONG).contains(&n) {
+            continue;
+        }
+        for verdict in [0, 1, 1, 2, 2] {
+            let (code, word) = loop {
+                let k = (r + 1).max(1 << (n - 1));
+                let code = Code::new(&mut rng, n, r, k, STYLES[3]);
+                let mut word = code.codeword(&mut rng);
+                if verdict == 2 {
+                    word[rng.below(1 << n)] ^= 1;
+                }
+                let losses = rng.within(1, 6);
+                let word = damaged(&mut rng, &word, losses);
+                if code.decoded(&word).code == verdict {
+                    break (code, word);
+                }
+            };
+            list.push(decode_in_room(&mut rng, &code, word, LARGEST_CEILING));
+        }
+    }
+    list
+}
+
+/// Words by which the ones in front of the free bits are seen: with some losses, up to 32 symbols
+/// also with few, and of short codes whole.
 fn ones_in_front() -> Vec<Request> {
     let mut rng = Rng::new(219);
     let mut list = Vec::new();
     for code in checked_codes(&mut rng) {
         for word in few_telling_words(&mut rng, &code) {
             let losses = rng.within(1, 3);
-            let both = [damaged(&mut rng, &word, losses), word];
-            for word in both.into_iter().take(if code.n < LONG { 2 } else { 1 }) {
+            let mut words = vec![damaged(&mut rng, &word, losses)];
+            if code.n < 6 {
+                words.push(damaged(&mut rng, &word, 1));
+            }
+            if code.n < LONG {
+                words.push(word);
+            }
+            for word in words {
                 list.push(decode_in_room(&mut rng, &code, word, LARGEST_CEILING));
             }
+        }
+    }
+    list
+}
+
+/// Words that keep the check as it is misread, with so many losses that they would be ambiguous, and
+/// are inconsistent.
+fn ambiguous_if_misread() -> Vec<Request> {
+    let mut rng = Rng::new(224);
+    let mut list = Vec::new();
+    for r in [6, 11] {
+        for misreading in MISREADINGS {
+            let (code, word) = loop {
+                let code = Code::any(&mut rng, 5, r);
+                let losses = rng.within(1, 6);
+                let right = code.codeword(&mut rng);
+                let right = damaged(&mut rng, &right, losses);
+                let misread = code.misread(&mut rng, misreading);
+                let lost: Vec<usize> = (0..32).filter(|&j| right[j] == ERASED).collect();
+                let misread = lost_at(&misread, &lost);
+                if [&right, &misread].map(|word| code.decoded(word).code) == [1, 2] {
+                    break (code, misread);
+                }
+            };
+            list.push(decode_in_room(&mut rng, &code, word, LARGEST_CEILING));
         }
     }
     list

@@ -67,10 +67,10 @@ fn every_style() -> Vec<Request> {
             _ => &STYLES[(n + r) % 4..][..1],
         };
         for &style in styles {
-            for round in 10 - [10, 10, 10, 8, 6, 3, 1].get(n).unwrap_or(&1)..10 {
+            for round in 0..[10, 10, 10, 8, 6, 3, 2].get(n).copied().unwrap_or(1) {
                 let k = match round {
-                    8 => r + 1,
-                    9 if n < LONG => 1 << n,
+                    1 => r + 1,
+                    2 => 1 << n,
                     _ => rng.within(r + 1, 1 << n),
                 };
                 let code = Code::new(&mut rng, n, r, k, style);
@@ -192,7 +192,7 @@ fn leading_zeros() -> Vec<Request> {
     for code in checked_codes(&mut rng) {
         let mut payloads = zero_payloads(&mut rng, code.payload());
         if code.n >= LONG {
-            payloads.rotate_left(code.n % 2);
+            payloads.rotate_left(code.n / 2 % 2);
             payloads.truncate(1);
         }
         for payload in payloads {

@@ -78,7 +78,10 @@ pub fn put(rng: &mut Rng, mut request: Request, set: &[u16], largest: u8) -> Req
         free_nothing(rng, &mut request);
     }
     if has(16) {
-        request.o = if rng.bit() {
+        request.o = if has(13) {
+            // too short for any check length
+            request.o / 2
+        } else if rng.bit() {
             request.o.max(1) - 1
         } else {
             rng.below(request.o.max(1))
@@ -94,7 +97,8 @@ pub fn put(rng: &mut Rng, mut request: Request, set: &[u16], largest: u8) -> Req
     }
     if has(14) {
         let right = request.b.len();
-        let length = if right > 0 && rng.bit() {
+        // a bad symbol is not cut off
+        let length = if right > 0 && !has(15) && rng.bit() {
             right - 1
         } else {
             right + 1
@@ -147,7 +151,9 @@ fn wrong_check(rng: &mut Rng, sheet: &[u8]) -> usize {
 /// A sheet one byte or one record off, or another n.
 fn wrong_length(rng: &mut Rng, request: &mut Request) {
     let right = request.a.len();
-    match rng.below(6) {
+    // from 16 symbols on the length is wrong
+    let kinds = if request.n < 4 { 6 } else { 4 };
+    match rng.below(kinds) {
         0 => request.a.truncate(right - 1),
         1 => request.a.push(0),
         2 => request.a.truncate(right - RECORD_BYTES),
@@ -168,7 +174,12 @@ fn some_sets(mut rng: Rng, exponents: Range<usize>, largest: u8, make: Maker) ->
     for n in exponents {
         for set in sets(n) {
             let r = rng.pick(&CHECKS);
-            let code = Code::any(&mut rng, n, suited(n, r));
+            let mut code = Code::any(&mut rng, n, suited(n, r));
+            if n >= LONG {
+                // so many that all lost are above each ceiling
+                let k = rng.within(3 << (n - 2), 1 << n);
+                code = Code::new(&mut rng, n, r, k, STYLES[3]);
+            }
             let good = make(&mut rng, &code);
             list.push(put(&mut rng, good, &set, largest));
         }

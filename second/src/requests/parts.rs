@@ -2,8 +2,10 @@
 // their words. A sheet of a long code takes ten thousand bytes and more, so that the lists keep of
 // these what each rule needs.
 
+use crate::answer::Answer;
+use crate::calls;
 use crate::layout::{Layout, NEW, OLD};
-use crate::limits::LARGEST_EXPONENT;
+use crate::limits::{LARGEST_CEILING, LARGEST_EXPONENT};
 use crate::make::{
     any_codeword, bits, bytes, codeword, every_sheet, faults_at, frozen_at, frozen_faults_at, good,
     good_records, only_word, spoil, word_of, zeros_first, Misreading, Style, MISREADINGS, STYLES,
@@ -310,6 +312,12 @@ impl Code {
     pub fn misread(&self, rng: &mut Rng, misreading: Misreading) -> Vec<u8> {
         let payload = bits(rng, self.payload());
         word_of(&self.read(), &misreading.free_bits(&payload, self.r))
+    }
+
+    /// What decoding answers under the largest ceiling.
+    pub fn decoded(&self, word: &[u8]) -> Answer {
+        let mut out = vec![0; 3 << self.n];
+        calls::decode(self.n, &self.sheet, self.r, LARGEST_CEILING, word, &mut out)
     }
 
     pub fn request(&self, op: u16, ceiling: usize, b: Vec<u8>, o: usize) -> Request {

@@ -198,7 +198,7 @@ fn first_bad_places() -> Vec<Request> {
         };
         for (at, place) in telling_places(1 << n).into_iter().enumerate() {
             let mut faults = faults_at(NEW, 1 << n, place);
-            let turn = at % faults.len();
+            let turn = 5 * at % faults.len();
             faults.rotate_left(turn);
             if n < 6 {
                 faults.retain(|&fault| fault != Fault::NamesItself);

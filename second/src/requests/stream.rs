@@ -7,8 +7,9 @@ use super::parts::{
     any_checks, any_style, checked_codes, choices, every_none_free, exponents, first_middle_last,
     none_free, old_sheets, spoil_frozen, spoil_somehow, symbols, telling_words, Code, CHECKS, LONG,
 };
-use super::unknowns::{self, lost_to};
+use super::unknowns::{self, contradicted, lost_at, lost_to};
 use crate::calls::ANSWER_BYTES;
+use crate::code::ERASED;
 use crate::limits::{LARGEST_CEILING, LARGEST_EXPONENT, RECORD_BYTES};
 use crate::make::{bits, damaged, every_word, only_word, MISREADINGS};
 use crate::protocol::{Request, INPUT_ROOM, OUTPUT_ROOM};
@@ -203,7 +204,10 @@ fn cut_off() -> Vec<Request> {
                 let mut input = words(&mut rng, &code, whole + 1);
                 input.truncate((whole << n) + rest);
                 let request = stream(&mut rng, code.sheet, vec![0, 63], input);
-                list.push(in_a_room(&mut rng, request));
+                list.push(match whole {
+                    0 => request,
+                    _ => in_a_room(&mut rng, request),
+                });
             }
         }
     }
@@ -219,7 +223,7 @@ fn several_words() -> Vec<Request> {
     for (n, r) in choices().into_iter().chain(between) {
         let (ceilings, most) = match n {
             0..LONG => (vec![rng.pick(&[63, 64, 255]), n as u8 / 2], 7),
-            _ => (vec![rng.pick(&[63, 64, 127, 128, 255])], 16),
+            _ => (vec![(255 >> (r.div_ceil(6) * (9 - n).max(1))) as u8], 16),
         };
         for ceiling in ceilings {
             let code = Code::any(&mut rng, n, r);
@@ -279,7 +283,7 @@ fn refused_words() -> Vec<Request> {
             }
             input.truncate((2 << n) - rng.below(1 << n));
             let request = stream(&mut rng, code.sheet, vec![r, ceiling], input);
-            list.push(in_a_room(&mut rng, request));
+            list.push(request);
         }
     }
     list
@@ -409,34 +413,45 @@ fn ones_in_front() -> Vec<Request> {
 }
 
 /// Words of the longest code with g at each border, under every check length: of a code whose frozen
-/// bits tie many unknowns, as they are and with a symbol turned over, and of one whose tie few.
+/// bits tie the unknowns, as they are and with a symbol turned over, and of one without frozen
+/// bits, a word that lost all among them.
 fn borders_of_unknowns() -> Vec<Request> {
     let mut rng = Rng::new(412);
     let mut list = Vec::new();
     let n = LARGEST_EXPONENT;
     for r in CHECKS {
-        for k in [LARGEST_CEILING + r, (1 << n) - 2] {
-            let code = Code::tied(&mut rng, n, r, k);
-            let mut input = Vec::new();
-            for g in unknowns::borders(n)
-                .into_iter()
-                .chain(unknowns::too_many(n))
-            {
-                let word = code.codeword(&mut rng);
-                let word = lost_to(&mut rng, &code, &word, g);
-                input.extend(&word);
-                if k == LARGEST_CEILING + r && g <= LARGEST_CEILING {
-                    let read: Vec<usize> = (0..1 << n).filter(|&j| word[j] < 2).collect();
-                    let mut other = word;
-                    other[rng.pick(&read)] ^= 1;
-                    input.extend(other);
-                }
-            }
+        let tied = Code::tied(&mut rng, n, r, 1 << (n - 1));
+        let loose = Code::tied(&mut rng, n, r, 1 << n);
+        let [mut of_tied, mut of_loose] = [Vec::new(), Vec::new()];
+        for g in unknowns::borders(n) {
+            let word = unique(&mut rng, &tied, g);
+            of_tied.extend(&word);
+            of_tied.extend(contradicted(&mut rng, &tied, &word));
+            let word = loose.codeword(&mut rng);
+            of_loose.extend(lost_to(&mut rng, &loose, &word, g));
+        }
+        of_loose.extend(vec![ERASED; 1 << n]);
+        for (code, input) in [(tied, of_tied), (loose, of_loose)] {
             let choice = vec![r as u8, LARGEST_CEILING as u8];
             list.push(stream(&mut rng, code.sheet, choice, input));
         }
     }
     list
+}
+
+/// A word of g unknowns that is unique. Many unknowns are the first positions, which the first
+/// symbols leave open, so that all others can tie them.
+fn unique(rng: &mut Rng, code: &Code, g: usize) -> Vec<u8> {
+    loop {
+        let word = code.codeword(rng);
+        let word = match g {
+            ..150 => lost_to(rng, code, &word, g),
+            _ => lost_at(&word, &(0..g).collect::<Vec<_>>()),
+        };
+        if code.decoded(&word).code == 0 {
+            return word;
+        }
+    }
 }
 
 /// Sheets of 20-byte records, of every old N: one record of 11, and the words are not read.

@@ -3,7 +3,6 @@
 // the open positions are free as g says, and frozen bits among the others tie them.
 
 use super::parts::{Code, CHECKS};
-use crate::calls;
 use crate::code::ERASED;
 use crate::limits::LARGEST_CEILING;
 use crate::make::bytes;
@@ -41,6 +40,18 @@ pub fn lost_to(rng: &mut Rng, code: &Code, word: &[u8], g: usize) -> Vec<u8> {
     lost_at(word, &order[..low])
 }
 
+/// The word with a symbol that was read turned over, so that it is inconsistent.
+pub fn contradicted(rng: &mut Rng, code: &Code, word: &[u8]) -> Vec<u8> {
+    let read: Vec<usize> = (0..word.len()).filter(|&j| word[j] != ERASED).collect();
+    loop {
+        let mut other = word.to_vec();
+        other[rng.pick(&read)] ^= 1;
+        if code.decoded(&other).code == INCONSISTENT {
+            return other;
+        }
+    }
+}
+
 /// The counts of unknowns that are asked for, as far as N allows them.
 pub fn borders(n: usize) -> Vec<usize> {
     let mut list = vec![0, 1];
@@ -60,15 +71,15 @@ pub fn too_many(n: usize) -> Vec<usize> {
     list
 }
 
-/// A verdict by its code.
-pub const UNIQUE: u16 = 0;
-pub const AMBIGUOUS: u16 = 1;
-pub const INCONSISTENT: u16 = 2;
+/// The verdicts by their codes.
+const UNIQUE: u16 = 0;
+const AMBIGUOUS: u16 = 1;
+const INCONSISTENT: u16 = 2;
 
 /// Whether words of this verdict are asked for. Unique needs as many equations as unknowns, from
 /// symbols that were read and from the check; ambiguous an unknown more than the check ties;
 /// inconsistent a symbol that was read.
-pub fn possible(n: usize, r: usize, g: usize, verdict: u16) -> bool {
+fn possible(n: usize, r: usize, g: usize, verdict: u16) -> bool {
     match verdict {
         UNIQUE => 2 * g <= (1 << n) + r,
         AMBIGUOUS => g > r,
@@ -88,16 +99,27 @@ fn dimensions(n: usize, r: usize, g: usize) -> Vec<usize> {
     list
 }
 
+/// A check length and a verdict.
+#[derive(Clone, Copy)]
+pub struct Case {
+    pub r: usize,
+    pub verdict: u16,
+}
+
+/// Every check length and verdict that is possible with g unknowns.
+pub fn cases(n: usize, g: usize) -> Vec<Case> {
+    let verdicts = [UNIQUE, AMBIGUOUS, INCONSISTENT];
+    let all = CHECKS
+        .into_iter()
+        .flat_map(|r| verdicts.map(|verdict| Case { r, verdict }));
+    all.filter(|case| possible(n, case.r, g, case.verdict))
+        .collect()
+}
+
 /// A code, and a word of g unknowns that gets this verdict, if ambiguous with the dimension whose
 /// turn it is.
-pub fn word(
-    rng: &mut Rng,
-    n: usize,
-    r: usize,
-    g: usize,
-    verdict: u16,
-    turn: usize,
-) -> (Code, Vec<u8>) {
+pub fn word(rng: &mut Rng, n: usize, g: usize, case: Case, turn: usize) -> (Code, Vec<u8>) {
+    let Case { r, verdict } = case;
     let d = match verdict {
         AMBIGUOUS => {
             let list = dimensions(n, r, g);
@@ -106,15 +128,8 @@ pub fn word(
         _ => 0,
     };
     loop {
-        let (code, word) = attempt(rng, n, r, g, verdict, d);
-        let answer = calls::decode(
-            n,
-            &code.sheet,
-            r,
-            g.min(LARGEST_CEILING),
-            &word,
-            &mut vec![0; 3 << n],
-        );
+        let (code, word) = attempt(rng, n, g, case, d);
+        let answer = code.decoded(&word);
         if (answer.code, usize::from(answer.d)) == (verdict, d) {
             return (code, word);
         }
@@ -122,7 +137,8 @@ pub fn word(
 }
 
 /// A code and a word of g unknowns that may get the verdict.
-fn attempt(rng: &mut Rng, n: usize, r: usize, g: usize, verdict: u16, d: usize) -> (Code, Vec<u8>) {
+fn attempt(rng: &mut Rng, n: usize, g: usize, case: Case, d: usize) -> (Code, Vec<u8>) {
+    let Case { r, verdict } = case;
     let length = 1 << n;
     // unique words lose no symbol in vain
     let spare = (length - g) / if verdict == UNIQUE { 16 } else { 4 };
@@ -152,7 +168,12 @@ fn attempt(rng: &mut Rng, n: usize, r: usize, g: usize, verdict: u16, d: usize) 
     let equations = needed.min(most);
     let mut records = vec![Record::default(); length];
     for &i in open[g..].iter().chain(&closed[..equations]) {
-        let plain = verdict == INCONSISTENT && (i == length - 1 || rng.bit());
+        // where nothing is to be tied, no bit is named
+        let plain = match verdict {
+            AMBIGUOUS => g == d + r,
+            INCONSISTENT => g == 0 || i == length - 1 || rng.bit(),
+            _ => g == 0,
+        };
         records[i] = Record {
             frozen: true,
             constant: rng.bit(),
@@ -168,26 +189,4 @@ fn attempt(rng: &mut Rng, n: usize, r: usize, g: usize, verdict: u16, d: usize) 
     }
     let word = lost_at(&word, &order[..lost]);
     (code, word)
-}
-
-/// A request's worth: n, r, g and the verdict, in the order of g.
-pub struct Case {
-    pub r: usize,
-    pub g: usize,
-    pub verdict: u16,
-}
-
-/// Every check length and verdict that is possible at each border.
-pub fn every_case(n: usize) -> Vec<Case> {
-    let mut list = Vec::new();
-    for g in borders(n) {
-        for r in CHECKS {
-            for verdict in [UNIQUE, AMBIGUOUS, INCONSISTENT] {
-                if possible(n, r, g, verdict) {
-                    list.push(Case { r, g, verdict });
-                }
-            }
-        }
-    }
-    list
 }
