@@ -7,14 +7,22 @@ use std::path::Path;
 /// A file by its name under the folder, and its bytes.
 #[derive(Clone, Debug, PartialEq, Eq)]
 pub struct File {
-    pub name: &'static str,
+    pub name: String,
     pub bytes: Vec<u8>,
+}
+
+impl File {
+    /// A file of a folder.
+    pub fn new(folder: &str, name: &str, bytes: Vec<u8>) -> File {
+        let name = format!("{folder}/{name}");
+        File { name, bytes }
+    }
 }
 
 /// Writes every file, with the folders it needs.
 pub fn write(dir: &Path, files: &[File]) -> io::Result<()> {
     for file in files {
-        let path = dir.join(file.name);
+        let path = dir.join(&file.name);
         if let Some(folder) = path.parent() {
             std::fs::create_dir_all(folder)?;
         }
@@ -26,7 +34,7 @@ pub fn write(dir: &Path, files: &[File]) -> io::Result<()> {
 /// Holds every file to what stands in the folder; else the first file and byte that differ.
 pub fn compare(dir: &Path, files: &[File]) -> Result<(), String> {
     for file in files {
-        let theirs = std::fs::read(dir.join(file.name))
+        let theirs = std::fs::read(dir.join(&file.name))
             .map_err(|error| format!("{} cannot be read: {error}", file.name))?;
         if let Some(at) = first_difference(&file.bytes, &theirs) {
             return Err(format!(

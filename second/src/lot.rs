@@ -1,28 +1,45 @@
-// The sample lot: a polar code over 128 cartridges with dynamic frozen bits, a choice, and the
-// words of a short test log: one symbol of every record stands on each cartridge, so that a lost
-// cartridge is the same place in every record. The folder explains itself by its README.
+// The sample lots: polar codes over 128 and over 512 cartridges with dynamic frozen bits, a choice,
+// and the words of a short test log: one symbol of every record stands on each cartridge, so that a
+// lost cartridge is the same place in every record. And the first one's sheet in the old layout.
+// Each folder explains itself by its README.
 
 use crate::calls::{answer_records, ANSWER_BYTES};
 use crate::code::ERASED;
 use crate::files::File;
+use crate::layout::OLD;
 use crate::make::bytes;
 use crate::rng::Rng;
 use crate::sheet::{Record, Sheet};
 use crate::show::{self, refusal, show, verdict};
 use crate::words::Codewords;
 
-/// N is 2 to this: as many symbols as cartridges.
-const EXPONENT: usize = 7;
-const CARTRIDGES: usize = 1 << EXPONENT;
+/// What a lot is made from.
+pub struct Plan {
+    /// Its folder.
+    folder: &'static str,
+    title: &'static str,
+    seed: u64,
+    /// N is 2 to this: as many symbols as cartridges.
+    exponent: usize,
+    /// K, the number of free positions.
+    free: usize,
+    positions: Positions,
+    check: usize,
+    ceiling: usize,
+    /// How many cartridges the vault lost.
+    lost: usize,
+    /// For each record, how many cartridges are lost to it, in the lot's order, and its flaw.
+    damage: &'static [(usize, Flaw)],
+}
 
-/// K, the number of free positions.
-const FREE: usize = 64;
-
-const CHECK: usize = 11;
-const CEILING: usize = 20;
-
-/// How many cartridges the vault lost.
-const LOST: usize = 56;
+/// Which positions are free.
+#[derive(Clone, Copy, Debug, PartialEq, Eq)]
+enum Positions {
+    /// Those that are best where half of the symbols are lost: few are open.
+    Best,
+    /// Any: many are open, and the frozen ones have to tie them.
+    Drawn,
+}
 
 /// What became of a record, besides its losses.
 #[derive(Clone, Copy, Debug, PartialEq, Eq)]
@@ -36,37 +53,88 @@ enum Flaw {
     CutOff(usize),
 }
 
-/// For each record, how many cartridges are lost to it, in the lot's order, and its flaw.
-const DAMAGE: [(usize, Flaw); 25] = [
-    (0, Flaw::None),
-    (0, Flaw::None),
-    (1, Flaw::None),
-    (9, Flaw::None),
-    (LOST, Flaw::None),
-    (LOST, Flaw::None),
-    (LOST, Flaw::None),
-    (LOST, Flaw::None),
-    (LOST, Flaw::None),
-    (LOST, Flaw::None),
-    (LOST, Flaw::None),
-    (LOST, Flaw::None),
-    (63, Flaw::None),
-    (72, Flaw::None),
-    (73, Flaw::None),
-    (81, Flaw::None),
-    (84, Flaw::None),
-    (85, Flaw::None),
-    (CARTRIDGES, Flaw::None),
-    (0, Flaw::Turned),
-    (LOST, Flaw::Turned),
-    (LOST, Flaw::Strange(7)),
-    (LOST, Flaw::None),
-    (LOST, Flaw::None),
-    (LOST, Flaw::CutOff(50)),
-];
+/// The lot on 128 cartridges.
+pub const LOT: Plan = Plan {
+    folder: "lot",
+    title: "A sample lot",
+    seed: 500,
+    exponent: 7,
+    free: 64,
+    positions: Positions::Best,
+    check: 11,
+    ceiling: 20,
+    lost: 56,
+    damage: &[
+        (0, Flaw::None),
+        (0, Flaw::None),
+        (1, Flaw::None),
+        (9, Flaw::None),
+        (56, Flaw::None),
+        (56, Flaw::None),
+        (56, Flaw::None),
+        (56, Flaw::None),
+        (56, Flaw::None),
+        (56, Flaw::None),
+        (56, Flaw::None),
+        (56, Flaw::None),
+        (63, Flaw::None),
+        (72, Flaw::None),
+        (73, Flaw::None),
+        (81, Flaw::None),
+        (84, Flaw::None),
+        (85, Flaw::None),
+        (128, Flaw::None),
+        (0, Flaw::Turned),
+        (56, Flaw::Turned),
+        (56, Flaw::Strange(7)),
+        (56, Flaw::None),
+        (56, Flaw::None),
+        (56, Flaw::CutOff(50)),
+    ],
+};
+
+/// The lot on 512 cartridges.
+pub const LONG: Plan = Plan {
+    folder: "long",
+    title: "A long sample lot",
+    seed: 501,
+    exponent: 9,
+    free: 256,
+    positions: Positions::Drawn,
+    check: 11,
+    ceiling: 200,
+    lost: 180,
+    damage: &[
+        (0, Flaw::None),
+        (1, Flaw::None),
+        (60, Flaw::None),
+        (127, Flaw::None),
+        (130, Flaw::None),
+        (180, Flaw::None),
+        (180, Flaw::None),
+        (180, Flaw::None),
+        (180, Flaw::None),
+        (240, Flaw::None),
+        (260, Flaw::None),
+        (264, Flaw::None),
+        (265, Flaw::None),
+        (310, Flaw::None),
+        (350, Flaw::None),
+        (391, Flaw::None),
+        (392, Flaw::None),
+        (512, Flaw::None),
+        (0, Flaw::Turned),
+        (180, Flaw::Turned),
+        (264, Flaw::Turned),
+        (180, Flaw::Strange(9)),
+        (180, Flaw::None),
+        (180, Flaw::CutOff(300)),
+    ],
+};
 
 /// A sheet, a choice and words as the programs read them.
 pub struct Lot {
+    plan: Plan,
     pub sheet: Vec<u8>,
     pub choice: Vec<u8>,
     pub words: Vec<Vec<u8>>,
@@ -83,12 +151,21 @@ fn unknown(z: f64, n: usize) -> Vec<f64> {
     [unknown(2.0 * z - z * z, n - 1), unknown(z * z, n - 1)].concat()
 }
 
-/// For each position, whether it is one of the K that are best where half of the symbols are lost.
-fn free_positions() -> Vec<bool> {
-    let unknown = unknown(0.5, EXPONENT);
-    let mut best: Vec<usize> = (0..CARTRIDGES).collect();
-    best.sort_by(|&i, &j| unknown[i].total_cmp(&unknown[j]));
-    (0..CARTRIDGES).map(|i| best[..FREE].contains(&i)).collect()
+/// For each position, whether it is free.
+fn free_positions(rng: &mut Rng, plan: &Plan) -> Vec<bool> {
+    let length = 1 << plan.exponent;
+    let order = match plan.positions {
+        Positions::Best => {
+            let unknown = unknown(0.5, plan.exponent);
+            let mut best: Vec<usize> = (0..length).collect();
+            best.sort_by(|&i, &j| unknown[i].total_cmp(&unknown[j]));
+            best
+        }
+        Positions::Drawn => rng.order(length),
+    };
+    (0..length)
+        .map(|i| order[..plan.free].contains(&i))
+        .collect()
 }
 
 /// A frozen record: plain while no free position stands before it, and then one time in five;
@@ -111,9 +188,9 @@ fn frozen_record(rng: &mut Rng, before: &[bool]) -> Record {
     }
 }
 
-fn sheet(rng: &mut Rng) -> Vec<u8> {
-    let free = free_positions();
-    let records: Vec<Record> = (0..CARTRIDGES)
+fn sheet(rng: &mut Rng, plan: &Plan) -> Vec<u8> {
+    let free = free_positions(rng, plan);
+    let records: Vec<Record> = (0..free.len())
         .map(|i| match free[i] {
             true => Record::default(),
             false => frozen_record(rng, &free[..i]),
@@ -122,14 +199,15 @@ fn sheet(rng: &mut Rng) -> Vec<u8> {
     bytes(&records)
 }
 
-/// The payload of a record of the log: six characters, as in 07FAIL, and a bin in the bits left,
-/// each with its highest bit first.
+/// The payload of a record of the log: six characters, as in 07FAIL, and a bin in the five bits
+/// behind, each with its highest bit first; then zeros.
 fn payload(rng: &mut Rng, number: usize, bits: usize) -> Vec<u8> {
     let passed = rng.below(4) > 0;
     let text = format!("{number:02}{}", if passed { "PASS" } else { "FAIL" });
     let bin = if passed { 1 } else { rng.within(2, 31) as u8 };
     let mut payload: Vec<u8> = text.bytes().flat_map(|byte| high_first(byte, 8)).collect();
-    payload.extend(high_first(bin, bits - payload.len()));
+    payload.extend(high_first(bin, 5));
+    payload.resize(bits, 0);
     payload
 }
 
@@ -139,17 +217,18 @@ fn high_first(byte: u8, count: usize) -> Vec<u8> {
 }
 
 impl Lot {
-    pub fn make() -> Lot {
-        let mut rng = Rng::new(500);
-        let sheet = sheet(&mut rng);
+    pub fn make(plan: Plan) -> Lot {
+        let mut rng = Rng::new(plan.seed);
+        let sheet = sheet(&mut rng, &plan);
         let mut lot = Lot {
-            order: rng.order(CARTRIDGES),
-            choice: vec![CHECK as u8, CEILING as u8],
+            order: rng.order(1 << plan.exponent),
+            choice: vec![plan.check as u8, plan.ceiling as u8],
             words: Vec::new(),
             sheet,
+            plan,
         };
         let codewords = lot.codewords();
-        for number in 1..=DAMAGE.len() {
+        for number in 1..=lot.plan.damage.len() {
             let payload = payload(&mut rng, number, codewords.bits());
             let word = lot.damaged(number, codewords.of(&payload));
             lot.words.push(word);
@@ -157,18 +236,30 @@ impl Lot {
         lot
     }
 
+    /// N.
+    fn cartridges(&self) -> usize {
+        1 << self.plan.exponent
+    }
+
+    fn read(&self) -> Sheet {
+        Sheet::read(self.plan.exponent, &self.sheet, self.plan.check).expect("a good sheet")
+    }
+
     pub fn codewords(&self) -> Codewords {
-        Codewords::new(EXPONENT, &self.sheet, CHECK).expect("a good sheet")
+        let Plan {
+            exponent, check, ..
+        } = self.plan;
+        Codewords::new(exponent, &self.sheet, check).expect("a good sheet")
     }
 
     /// The place of a record's flaw: no two the same, and none that is lost.
     fn place(&self, number: usize) -> usize {
-        self.order[CARTRIDGES - number]
+        self.order[self.cartridges() - number]
     }
 
     /// What is left of the word of a record, numbered from 1.
     fn damaged(&self, number: usize, mut word: Vec<u8>) -> Vec<u8> {
-        let (lost, flaw) = DAMAGE[number - 1];
+        let (lost, flaw) = self.plan.damage[number - 1];
         for &j in &self.order[..lost] {
             word[j] = ERASED;
         }
@@ -186,9 +277,14 @@ impl Lot {
         answer_records(&self.sheet, &self.choice, &self.words.concat())
     }
 
+    /// The sheet in the old layout.
+    pub fn old_sheet(&self) -> Vec<u8> {
+        OLD.write(&self.read().records)
+    }
+
     /// The files of the lot's folder.
-    pub fn files(&self) -> Vec<File> {
-        let file = |name, bytes| File { name, bytes };
+    fn files(&self) -> Vec<File> {
+        let file = |name, bytes| File::new(self.plan.folder, name, bytes);
         vec![
             file("sheet.bin", self.sheet.clone()),
             file("choice.bin", self.choice.clone()),
@@ -199,14 +295,15 @@ impl Lot {
 
     /// What was done to a record, in words.
     fn done(&self, number: usize) -> String {
-        let (lost, flaw) = DAMAGE[number - 1];
+        let (lost, flaw) = self.plan.damage[number - 1];
+        let all = self.plan.lost;
         let losses = match lost {
             0 => "nothing lost".to_string(),
             1 => "one cartridge lost".to_string(),
-            LOST => format!("the {LOST} cartridges lost"),
-            CARTRIDGES => "every cartridge lost".to_string(),
-            _ if lost < LOST => format!("{lost} cartridges lost"),
-            _ => format!("the {LOST} cartridges and {} more lost", lost - LOST),
+            _ if lost == all => format!("the {all} cartridges lost"),
+            _ if lost == self.cartridges() => "every cartridge lost".to_string(),
+            _ if lost < all => format!("{lost} cartridges lost"),
+            _ => format!("the {all} cartridges and {} more lost", lost - all),
         };
         let place = self.place(number);
         match flaw {
@@ -219,7 +316,7 @@ impl Lot {
 
     /// The lost cartridges, rising.
     fn lost(&self) -> String {
-        let mut lost = self.order[..LOST].to_vec();
+        let mut lost = self.order[..self.plan.lost].to_vec();
         lost.sort();
         let lost: Vec<String> = lost.iter().map(usize::to_string).collect();
         lost.join(", ")
@@ -227,7 +324,7 @@ impl Lot {
 
     /// What kinds of record the sheet holds, in words.
     fn kinds(&self) -> String {
-        let sheet = Sheet::read(EXPONENT, &self.sheet, CHECK).expect("a good sheet");
+        let sheet = self.read();
         let frozen: Vec<&Record> = sheet.records.iter().filter(|r| r.frozen).collect();
         let plain = frozen.iter().filter(|r| r.named.is_empty()).count();
         let ones = frozen.iter().filter(|r| r.constant).count();
@@ -248,16 +345,16 @@ impl Lot {
         let (_, counts) = shown.split_once("\n\n").expect("an empty line");
         let counts: String = counts.lines().map(|line| format!("    {line}\n")).collect();
         format!(
-            "# A sample lot
+            "# {title}
 
-A test log of {records} records on {CARTRIDGES} cartridges. Symbol j of every record stands on \
+A test log of {records} records on {cartridges} cartridges. Symbol j of every record stands on \
 cartridge j (all counted from 0), so a lost cartridge is the same place in every record it is lost to.
 
 - `sheet.bin`: the code sheet, {kinds}.
-- `choice.bin`: check length {CHECK}, ceiling {CEILING}.
-- `words.bin`: the words as they were read, {CARTRIDGES} bytes each: 0, 1, or 2 where the cartridge is lost.
+- `choice.bin`: check length {check}, ceiling {ceiling}.
+- `words.bin`: the words as they were read, {cartridges} bytes each: 0, 1, or 2 where the cartridge is lost.
 
-The vault lost {LOST} cartridges: {lost}. The first records were read before that, and some had further losses.
+The vault lost {count} cartridges: {lost}. The first records were read before that, and some had further losses.
 
 ## What is to be seen
 
@@ -273,8 +370,13 @@ g: unknowns. m: equations. d: 2 to the d contents agree. What is left empty here
 and at the end
 
 {counts}
-These files are made by `second lot` and held by `second compare-lot`.
+These files are made by `second lots` and held by `second compare-lots`.
 ",
+            title = self.plan.title,
+            check = self.plan.check,
+            ceiling = self.plan.ceiling,
+            count = self.plan.lost,
+            cartridges = self.cartridges(),
             records = self.words.len(),
             kinds = self.kinds(),
             lost = self.lost(),
@@ -299,3 +401,22 @@ fn row(number: usize, done: &str, record: &[u8]) -> String {
     };
     format!("| {number} | {done} | {said} | {counts} |\n")
 }
+
+/// The files of all folders of examples.
+pub fn files() -> Vec<File> {
+    let lots = [LOT, LONG].map(Lot::make);
+    let mut files: Vec<File> = lots.iter().flat_map(Lot::files).collect();
+    files.push(File::new("old", "sheet.bin", lots[0].old_sheet()));
+    files.push(File::new("old", "README.md", OLD_README.into()));
+    files
+}
+
+/// What stands beside the old sheet.
+const OLD_README: &str = "# A sheet in the old layout
+
+`sheet.bin` is the sheet of the sample lot (`../lot`) as it was before W-206: 20 bytes a record, the \
+mask 16 of them. Every program but `convert` refuses it with 11. `convert` turns it into \
+`../lot/sheet.bin`, byte for byte.
+
+These files are made by `second lots` and held by `second compare-lots`.
+";

@@ -1,10 +1,10 @@
 // The commands: write the vectors, compare them with files, answer requests; the same for the
-// sample lot and for what the programs are held to; and what these programs do.
+// sample lots and for what the programs are held to; and what these programs do.
 // The vectors are the bytes of all requests (stdin) and of their answers (stdout).
 
 use second::calls;
 use second::files::{self, first_difference, shown, File};
-use second::lot::Lot;
+use second::lot;
 use second::pace::Pace;
 use second::programs;
 use second::protocol::{write_answer, Request};
@@ -27,9 +27,9 @@ const USAGE: &str = "usage:
   second stream DIR             answer the words on standard input, by DIR/sheet.bin and DIR/choice.bin
   second show                   print the answer records on standard input for a person
   second words DIR COUNT SEED   write so many damaged words of DIR/sheet.bin and DIR/choice.bin
-  second lot DIR                write the sample lot
-  second compare-lot DIR        make it again and compare
-  second programs CRATES        write what the programs recover and show read and must write
+  second lots EXAMPLES          write the sample lots and an old sheet, each in its folder
+  second compare-lots EXAMPLES  make them again and compare
+  second programs CRATES        write what recover, show and convert read and must write
   second compare-programs CRATES
                                 make it again and compare
 ";
@@ -237,10 +237,8 @@ fn run(arguments: &[&str]) -> io::Result<ExitCode> {
         ["stream", dir] => stream(Path::new(dir))?,
         ["show"] => io::stdout().write_all(show(&input()).as_bytes())?,
         ["words", dir, count, seed] => words(Path::new(dir), count, seed)?,
-        ["lot", dir] => print!("{}", write_files(Path::new(dir), &Lot::make().files())?),
-        ["compare-lot", dir] => {
-            return Ok(outcome(compare_files(Path::new(dir), &Lot::make().files())))
-        }
+        ["lots", dir] => print!("{}", write_files(Path::new(dir), &lot::files())?),
+        ["compare-lots", dir] => return Ok(outcome(compare_files(Path::new(dir), &lot::files()))),
         ["programs", dir] => print!("{}", write_files(Path::new(dir), &programs::files())?),
         ["compare-programs", dir] => {
             return Ok(outcome(compare_files(Path::new(dir), &programs::files())))

@@ -1,31 +1,33 @@
-// What the two programs are held to: for each, its standard input, the files it reads, and what it
-// must write. `recover` answers a stream of words; `show` prints answer records for a person.
+// What the programs are held to: for each, its standard input, the files it reads, and what it must
+// write. `recover` answers a stream of words; `show` prints answer records for a person; `convert`
+// turns an old sheet into one of today's layout.
 
 use crate::answer::Answer;
 use crate::calls::{answer_record, answer_records};
 use crate::files::File;
 use crate::layout::NEW;
-use crate::limits::{HEADER_BYTES, STRIP_BYTES};
-use crate::lot::Lot;
+use crate::limits::{HEADER_BYTES, RECORD_BYTES, STRIP_BYTES};
+use crate::lot::{Lot, LONG, LOT};
 use crate::make::{any_codeword, bits, damaged, good, spoil, Fault, STYLES};
 use crate::rng::Rng;
 use crate::show::show;
 
-/// The files of both, by their names under the folder of the crates.
+/// Their files, by their names under the folder of the crates.
 pub fn files() -> Vec<File> {
-    let lot = Lot::make();
+    let [lot, long] = [LOT, LONG].map(Lot::make);
     let words = recover_input(&lot);
     let answers = answer_records(&lot.sheet, &lot.choice, &words);
-    let records = show_input(&lot);
+    let records = show_input(&lot, &long);
     let text = show(&records).into_bytes();
-    let file = |name, bytes| File { name, bytes };
     vec![
-        file("recover/data/sheet.bin", lot.sheet),
-        file("recover/data/choice.bin", lot.choice),
-        file("recover/stdin", words),
-        file("recover/stdout", answers),
-        file("show/stdin", records),
-        file("show/stdout", text),
+        File::new("convert", "stdin", lot.old_sheet()),
+        File::new("convert", "stdout", lot.sheet.clone()),
+        File::new("recover", "data/sheet.bin", lot.sheet),
+        File::new("recover", "data/choice.bin", lot.choice),
+        File::new("recover", "stdin", words),
+        File::new("recover", "stdout", answers),
+        File::new("show", "stdin", records),
+        File::new("show", "stdout", text),
     ]
 }
 
@@ -35,7 +37,7 @@ fn recover_input(lot: &Lot) -> Vec<u8> {
     let codewords = lot.codewords();
     let (cut_off, whole) = lot.words.split_last().expect("the words of the lot");
     let mut input = whole.concat();
-    for _ in 0..320 {
+    for _ in 0..200 {
         input.extend(codewords.damaged(&mut rng));
     }
     input.extend(cut_off);
@@ -43,9 +45,9 @@ fn recover_input(lot: &Lot) -> Vec<u8> {
 }
 
 /// Records of every code and length, and a cut-off one.
-fn show_input(lot: &Lot) -> Vec<u8> {
+fn show_input(lot: &Lot, long: &Lot) -> Vec<u8> {
     let mut rng = Rng::new(520);
-    let mut records = lot.answers();
+    let mut records = [lot.answers(), long.answers()].concat();
     for (n, k) in [(0, 1), (1, 1), (3, 4)] {
         records.extend(short_words(&mut rng, n, k));
     }
@@ -71,31 +73,33 @@ fn short_words(rng: &mut Rng, n: usize, k: usize) -> Vec<u8> {
     records
 }
 
-/// The refusals a stream can give, with places of one, two and three digits.
+/// The refusals a stream can give, with places of one, two and three digits, of one byte and of two.
 fn refusals(rng: &mut Rng) -> Vec<u8> {
-    let sheet = good(rng, 128, 64, STYLES[3]);
-    let word = vec![2; 128];
+    let length = 512;
+    let sheet = good(rng, length, 300, STYLES[3]);
+    let right = RECORD_BYTES * length;
+    let word = vec![2; length];
     let mut records = Vec::new();
     for (length, choice) in [
-        (0, &[0, 63][..]),
-        (8703, &[0, 63]),
-        (8704, &[]),
-        (8704, &[0, 63, 0]),
-        (8704, &[5, 63]),
-        (8704, &[0, 64]),
-        (8704, &[0, 0]),
+        (0, &[0, 255][..]),
+        (right - 1, &[0, 255]),
+        (right, &[]),
+        (right, &[0, 255, 0]),
+        (right, &[5, 255]),
+        (right, &[0, 255]),
+        (right, &[0, 0]),
     ] {
         records.extend(answer_records(&sheet[..length], choice, &word));
     }
-    for place in [0, 9, 10, 99, 100, 127] {
+    for place in [0, 9, 10, 99, 100, 255, 256, length - 1] {
         let mut bad_sheet = sheet.clone();
         spoil(rng, NEW, &mut bad_sheet, place, Fault::ByteTwo);
-        records.extend(answer_records(&bad_sheet, &[0, 63], &word));
+        records.extend(answer_records(&bad_sheet, &[0, 255], &word));
         let mut bad_word = word.clone();
         bad_word[place] = 3;
-        records.extend(answer_records(&sheet, &[0, 63], &bad_word));
+        records.extend(answer_records(&sheet, &[0, 255], &bad_word));
     }
-    records.extend(answer_records(&sheet, &[0, 63], &word[1..]));
+    records.extend(answer_records(&sheet, &[0, 255], &word[1..]));
     // no free position: two words, the last cut off where N allows it, under right and wrong choices
     for (n, choice) in [(0, [0, 63]), (3, [0, 63]), (7, [11, 64])] {
         let sheet = good(rng, 1 << n, 0, STYLES[3]);
@@ -105,19 +109,33 @@ fn refusals(rng: &mut Rng) -> Vec<u8> {
     records
 }
 
-/// Records that no stream gives: every code that is no answer's up to 20 and some larger ones, the
-/// refusal 16, the largest numbers, strips of any bytes and of several lengths.
+/// Records that no stream gives: every code that is no answer's up to 20 and some larger ones, also
+/// such whose low byte is an answer's; the refusals 16 and 17; the largest numbers and others above
+/// 255 in every place; strips of any bytes and of several lengths.
 fn by_hand() -> Vec<u8> {
     let mut records = Vec::new();
-    for code in (0..=20).chain([77, 99, 100, 255]) {
+    for code in (0..=20).chain([77, 99, 100, 255, 256, 257, 274, 1000, 65535]) {
         let mut record = answer_record(Answer::code(code), &[], 1);
         record[2..HEADER_BYTES].fill(255);
         records.extend(record);
     }
+    for code in [0, 1, 2, 12, 15, 18] {
+        for numbers in [[256, 257, 300, 511], [999, 1000, 4660, 65280]] {
+            let [place, g, m, d] = numbers;
+            let answer = Answer {
+                code,
+                place,
+                g,
+                m,
+                d,
+            };
+            records.extend(answer_record(answer, &[], 1));
+        }
+    }
     for code in 0..=2 {
         let mut record = answer_record(Answer::counted(code, 1, 22, 255), &[], 1);
         let strips = &mut record[HEADER_BYTES..];
-        for (byte, value) in strips[..STRIP_BYTES].iter_mut().zip(0..) {
+        for (byte, value) in strips[..STRIP_BYTES].iter_mut().zip(0..255) {
             *byte = value;
         }
         strips[STRIP_BYTES..][..5].copy_from_slice(&[1, 0, 255, 1, 1]);

@@ -1,9 +1,10 @@
-// The commands as they are run: stream, show, words, dense, and the comparisons.
+// The commands as they are run: stream, show, words, pace, and the comparisons.
 
 mod common;
-use common::{folder, sheet_e, symbols};
+use common::{folder, lone, record, sheet_e, symbols};
+use second::layout::{NEW, OLD};
+use second::limits::RECORD_BYTES;
 use second::protocol::Request;
-use second::sheet::Sheet;
 use std::io::Write;
 use std::path::{Path, PathBuf};
 use std::process::{Command, Output, Stdio};
@@ -43,18 +44,11 @@ fn written(arguments: &[&str], input: &[u8]) -> Vec<u8> {
     output.stdout
 }
 
-/// A record of a code alone.
-fn alone(code: u8) -> Vec<u8> {
-    let mut record = vec![code, 0, 0, 0, 0, 0, 0, 0];
-    record.extend([255; 384]);
-    record
-}
-
 /// Sheet E with its free positions frozen.
 fn none_free() -> Vec<u8> {
     let mut sheet = sheet_e();
     for i in 0..8 {
-        sheet[20 * i] = 1;
+        sheet[RECORD_BYTES * i] = 1;
     }
     sheet
 }
@@ -62,12 +56,9 @@ fn none_free() -> Vec<u8> {
 #[test]
 fn the_whole_stream_of_the_bench() {
     let dir = stream_folder("bench", Some(&sheet_e()), Some(&[0, 63]));
-    let mut expected = vec![0, 0, 0, 4, 0, 0, 0, 0];
-    for _ in 0..3 {
-        expected.extend([0, 1, 1, 1, 1, 0, 0, 0]);
-        expected.extend([255; 120]);
-    }
-    expected.extend(alone(14));
+    let whole = symbols("01111000");
+    let strips = [(); 3].map(|()| whole.clone());
+    let expected = [record([0, 0, 0, 4, 0], Some(strips)), lone(14)].concat();
     let answers = written(&["stream", dir.to_str().unwrap()], &symbols("011110002"));
     assert_eq!(answers, expected);
     assert_eq!(written(&["stream", dir.to_str().unwrap()], &[]), []);
@@ -97,24 +88,23 @@ fn one_record_where_the_words_are_not_read() {
         let input = child.stdin.take();
         let output = child.wait_with_output().unwrap();
         drop(input);
-        assert_eq!(output.stdout, alone(code), "{name}");
+        assert_eq!(output.stdout, lone(code), "{name}");
     }
 }
 
 #[test]
 fn checks_of_the_words_come_one_by_one() {
     let mut bad = sheet_e();
-    bad[20 * 5 + 2] = 1;
+    bad[RECORD_BYTES * 5 + 2] = 1;
     let dir = stream_folder("bad-record", Some(&bad), Some(&[7, 99]));
-    let mut refused = alone(12);
-    refused[1] = 5;
+    let refused = record([12, 5, 0, 0, 0], None);
     let dir = dir.to_str().unwrap();
     assert_eq!(written(&["stream", dir], &[9; 17]), refused.repeat(3));
     assert_eq!(written(&["stream", dir], &[]), []);
     let dir = stream_folder("nothing", Some(&none_free()), Some(&[7, 99]));
     let dir = dir.to_str().unwrap();
     let answers = written(&["stream", dir], &[9; 17]);
-    assert_eq!(answers, alone(19).repeat(3));
+    assert_eq!(answers, lone(19).repeat(3));
     assert_eq!(written(&["stream", dir], &[]), []);
     let text = String::from_utf8(written(&["show"], &answers)).unwrap();
     let line = "     3  refused 19    the sheet has no free position: it holds nothing\n";
@@ -124,8 +114,9 @@ fn checks_of_the_words_come_one_by_one() {
 #[test]
 fn words_are_the_same_again() {
     let dir = folder("words");
+    written(&["lots", dir.to_str().unwrap()], &[]);
+    let dir = dir.join("lot");
     let dir = dir.to_str().unwrap();
-    written(&["lot", dir], &[]);
     let words = written(&["words", dir, "100", "7"], &[]);
     assert_eq!(words.len(), 12800);
     assert_eq!(words, written(&["words", dir, "100", "7"], &[]));
@@ -142,35 +133,82 @@ fn words_are_the_same_again() {
     assert_eq!(refused.stderr, b"second: refused 19\n");
 }
 
-#[test]
-fn dense_requests_name_all_bits_before() {
-    for op in [0, 1] {
-        let bytes = written(&["dense", &op.to_string(), "5"], &[]);
-        let mut left = &bytes[..];
-        let requests: Vec<Request> = std::iter::from_fn(|| Request::read(&mut left)).collect();
-        assert_eq!((requests.len(), left.len()), (5, 0));
-        for request in &requests {
-            assert_eq!((request.op, request.n, request.r), (op, 7, 0));
-            let sheet = Sheet::read(7, &request.a, 0).unwrap();
-            let frozen = sheet.records.iter().enumerate().filter(|(_, r)| r.frozen);
-            for (i, record) in frozen {
-                assert_eq!(record.named, (0..i).collect::<Vec<_>>());
-            }
-        }
-        let answers = written(&["answer"], &bytes);
-        assert_eq!(answers.len(), 5 * (10 + 128));
-        assert!(answers.chunks(138).all(|answer| answer[..10] == [0; 10]));
-        assert_eq!(answers.contains(&165), op == 0);
-    }
-    assert!(!run(&["dense", "1", "many"], &[]).status.success());
-    assert_eq!(run(&["dense", "2", "5"], &[]).status.code(), Some(2));
+/// The requests that a command wrote, all of them.
+fn requests(mut bytes: &[u8]) -> Vec<Request> {
+    let list = std::iter::from_fn(|| Request::read(&mut bytes)).collect();
+    assert!(bytes.is_empty());
+    list
 }
 
 #[test]
-fn the_lot_and_the_programs_are_compared() {
+fn requests_to_measure_by() {
+    for (op, call) in ["check_sheet", "encode", "decode"].into_iter().enumerate() {
+        let of = |length, layout| written(&["pace", call, length, "16", "5", layout], &[]);
+        let [new, old, long] =
+            [("128", "new"), ("128", "old"), ("512", "new")].map(|(n, l)| of(n, l));
+        let [new_list, old_list, long_list] = [&new, &old, &long].map(|bytes| requests(bytes));
+        for (list, n, k) in [(&new_list, 7, 64), (&long_list, 9, 256)] {
+            assert_eq!(list.len(), 5);
+            for request in list {
+                assert_eq!((usize::from(request.op), request.r), (op, 11));
+                let sheet = NEW.read(n, &request.a).unwrap();
+                // frozen where the number of ones is below half, naming two positions before
+                for (i, record) in sheet.records.iter().enumerate() {
+                    assert_eq!(record.frozen, i.count_ones() < (n as u32).div_ceil(2));
+                    if record.frozen && i > 2 {
+                        assert_eq!(record.named, [i - 3, i - 1]);
+                    }
+                }
+                let lost = request.b.iter().filter(|&&symbol| symbol == 2).count();
+                assert_eq!(lost, if op == 2 { 16 } else { 0 });
+                let length = [0, sheet.k() - 11, 1 << n][op];
+                assert_eq!((request.b.len(), request.o), (length, [0, 1, 3][op] << n));
+                assert!(sheet.k() >= k);
+            }
+        }
+        // the same requests but for the layout
+        for (new, old) in new_list.iter().zip(&old_list) {
+            let sheets = [NEW.read(7, &new.a), OLD.read(7, &old.a)].map(Result::unwrap);
+            assert_eq!(sheets[0], sheets[1]);
+            let a = new.a.clone();
+            assert_eq!(*new, Request { a, ..old.clone() });
+            assert!(op == 0 || new_list[0].b != new_list[1].b);
+        }
+        // every answer is one of the call, and more requests begin with the same
+        let answers = written(&["answer"], &new);
+        let size = 10 + new_list[0].o;
+        assert_eq!(answers.len(), 5 * size);
+        assert!(answers
+            .chunks(size)
+            .all(|answer| answer[0] < 2 && answer[1] == 0));
+        let more = written(&["pace", call, "128", "16", "9", "new"], &[]);
+        assert_eq!(more[..new.len()], new);
+    }
+    for wrong in [
+        ["pace", "stream", "128", "16", "5", "new"],
+        ["pace", "decode", "100", "16", "5", "new"],
+        ["pace", "decode", "1024", "16", "5", "new"],
+        ["pace", "decode", "256", "16", "5", "old"],
+        ["pace", "decode", "128", "129", "5", "new"],
+        ["pace", "decode", "128", "16", "many", "new"],
+        ["pace", "decode", "128", "16", "5", "newer"],
+    ] {
+        let output = run(&wrong, &[]);
+        assert!(
+            output.status.code() == Some(1) && output.stdout.is_empty(),
+            "{wrong:?}"
+        );
+    }
+}
+
+#[test]
+fn a_wrong_or_missing_file_fails_the_comparison() {
     for (make, compare, file) in [
-        ("lot", "compare-lot", "words.bin"),
+        ("lots", "compare-lots", "lot/words.bin"),
+        ("lots", "compare-lots", "long/README.md"),
+        ("lots", "compare-lots", "old/sheet.bin"),
         ("programs", "compare-programs", "show/stdout"),
+        ("programs", "compare-programs", "convert/stdout"),
     ] {
         let dir = folder(make);
         let path = dir.to_str().unwrap();
@@ -184,5 +222,12 @@ fn the_lot_and_the_programs_are_compared() {
         assert_eq!(output.status.code(), Some(1));
         let message = format!("second: {file} differs at byte 30: expected {expected}, found 3\n");
         assert_eq!(String::from_utf8(output.stderr).unwrap(), message);
+        std::fs::remove_file(dir.join(file)).unwrap();
+        let output = run(&[compare, path], &[]);
+        assert_eq!(output.status.code(), Some(1));
+        let message = format!("second: {file} cannot be read: ");
+        assert!(String::from_utf8(output.stderr)
+            .unwrap()
+            .starts_with(&message));
     }
 }

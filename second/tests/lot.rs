@@ -1,13 +1,14 @@
-// The sample lot, words drawn in any number, and what the programs are held to.
+// The sample lots, words drawn in any number, and what the programs are held to.
 
 mod common;
-use common::{check_kept, choices, folder, numbers_of, u_of, BEFORE};
+use common::{check_kept, choices, folder, lone, numbers_of, u_of, BEFORE};
 use second::answer::Answer;
 use second::calls::{self, answer_records, ANSWER_BYTES};
 use second::code::free_bits;
 use second::files::{compare, write, File};
-use second::limits::{HEADER_BYTES, RECORD_BYTES};
-use second::lot::Lot;
+use second::layout::OLD;
+use second::limits::{HEADER_BYTES, RECORD_BYTES, STRIP_BYTES};
+use second::lot::{self, Lot, LONG, LOT};
 use second::make::bits;
 use second::programs;
 use second::rng::Rng;
@@ -31,7 +32,7 @@ fn lost(word: &[u8]) -> Vec<usize> {
 
 #[test]
 fn the_lot_has_a_sheet_of_every_kind_of_record() {
-    let lot = Lot::make();
+    let lot = Lot::make(LOT);
     let sheet = Sheet::read(7, &lot.sheet, 11).unwrap();
     assert_eq!((sheet.length(), sheet.k()), (128, 64));
     let frozen: Vec<_> = sheet.records.iter().filter(|r| r.frozen).collect();
@@ -55,17 +56,15 @@ fn the_lot_has_a_sheet_of_every_kind_of_record() {
 
 #[test]
 fn the_lot_has_every_verdict_it_promises() {
-    let lot = Lot::make();
+    let lot = Lot::make(LOT);
     assert_eq!(lot.words.len(), 25);
     let (cut_off, whole) = lot.words.split_last().unwrap();
     assert!(whole.iter().all(|word| word.len() == 128) && cut_off.len() < 128);
     let found = verdicts(&lot.answers());
     assert_eq!(found.len(), 25);
-    let [check, ceiling] = lot.choice[..] else {
-        panic!("two bytes");
-    };
-    assert_eq!(check, 11);
-    let some = |what: &dyn Fn(usize, [u8; 4]) -> bool| {
+    assert_eq!(lot.choice, [11, 20]);
+    let ceiling = 20;
+    let some = |what: &dyn Fn(usize, [u16; 4]) -> bool| {
         let records = lot.words.iter().zip(&found);
         let count = records.filter(|(word, &found)| what(lost(word).len(), found));
         assert!(count.count() > 0);
@@ -87,7 +86,7 @@ fn the_lot_has_every_verdict_it_promises() {
 
 #[test]
 fn the_lot_loses_the_same_cartridges_in_many_records() {
-    let lot = Lot::make();
+    let lot = Lot::make(LOT);
     let mut sets: BTreeMap<Vec<usize>, usize> = BTreeMap::new();
     for word in &lot.words[..24] {
         *sets.entry(lost(word)).or_default() += 1;
@@ -103,13 +102,14 @@ fn the_lot_loses_the_same_cartridges_in_many_records() {
 
 #[test]
 fn unique_records_of_the_lot_give_back_their_text() {
-    let lot = Lot::make();
+    let lot = Lot::make(LOT);
     let sheet = Sheet::read(7, &lot.sheet, 11).unwrap();
     for (at, record) in lot.answers().chunks(ANSWER_BYTES).enumerate() {
         if record[0] == 0 {
-            assert!(check_kept(&free_bits(&sheet, &u_of(&record[8..136])), 11));
+            let word = &record[HEADER_BYTES..][..128];
+            assert!(check_kept(&free_bits(&sheet, &u_of(word)), 11));
             let mut payload = vec![BEFORE; 53];
-            let answer = calls::read_back(7, &lot.sheet, 11, &record[8..136], &mut payload);
+            let answer = calls::read_back(7, &lot.sheet, 11, word, &mut payload);
             assert_eq!(answer, Answer::code(0));
             let byte = |bits: &[u8]| bits.iter().fold(0, |byte, bit| 2 * byte + bit);
             let text: Vec<u8> = payload[..48].chunks(8).map(byte).collect();
@@ -121,56 +121,100 @@ fn unique_records_of_the_lot_give_back_their_text() {
 }
 
 #[test]
-fn the_readme_says_what_the_answers_say() {
-    let lot = Lot::make();
-    let files = lot.files();
-    let names: Vec<&str> = files.iter().map(|file| file.name).collect();
-    assert_eq!(names, ["sheet.bin", "choice.bin", "words.bin", "README.md"]);
-    let readme = String::from_utf8(files[3].bytes.clone()).unwrap();
-    let rows: Vec<Vec<&str>> = (readme.lines())
-        .map(|line| line.split('|').map(str::trim).collect())
-        .filter(|row: &Vec<&str>| row.len() == 8 && row[1].parse::<usize>().is_ok())
-        .collect();
-    assert_eq!(rows.len(), 25);
-    for ((at, row), [code, g, m, d]) in rows.iter().enumerate().zip(verdicts(&lot.answers())) {
-        assert_eq!(row[1], (at + 1).to_string());
-        let counts = match code {
-            0..=2 => [g, m, d].map(|number| number.to_string()),
-            18 => [g.to_string(), String::new(), String::new()],
-            _ => [(); 3].map(|()| String::new()),
-        };
-        assert_eq!(row[4..7], counts);
-        let said = match code {
-            0 => "unique".to_string(),
-            1 => "ambiguous".to_string(),
-            2 => "inconsistent".to_string(),
-            _ => format!("refused {code}: "),
-        };
-        assert!(row[3].starts_with(&said), "{row:?}");
+fn the_long_lot_has_every_verdict_a_stream_can_give() {
+    let lot = Lot::make(LONG);
+    let sheet = Sheet::read(9, &lot.sheet, 11).unwrap();
+    assert_eq!((sheet.length(), lot.words.len()), (512, 24));
+    let dynamic = sheet.records.iter().filter(|r| !r.named.is_empty());
+    assert!(dynamic.count() > 100);
+    assert_eq!(lot.choice, [11, 200]);
+    let found = verdicts(&lot.answers());
+    let codes: BTreeSet<u16> = found.iter().map(|found| found[0]).collect();
+    assert_eq!(codes, BTreeSet::from([0, 1, 2, 14, 15, 18]));
+    let some = |what: &dyn Fn([u16; 4]) -> bool| assert!(found.iter().any(|&found| what(found)));
+    for words in [64, 128] {
+        some(&|[code, g, ..]| code == 0 && g >= words);
+        some(&|[code, g, ..]| code == 1 && g >= words);
+        some(&|[code, g, ..]| code == 2 && g >= words);
     }
+    some(&|[code, g, ..]| code == 0 && (1..64).contains(&g));
+    some(&|[code, _, _, d]| code == 1 && d == 1);
+    some(&|[code, _, _, d]| code == 1 && d > 63);
+    some(&|[code, _, m, _]| code == 0 && m > 255);
+    some(&|[code, g, ..]| code == 1 && g == 200);
+    some(&|[code, g, ..]| code == 18 && g == 201);
+    some(&|[code, g, ..]| code == 18 && g == 256);
+}
+
+#[test]
+fn the_readmes_say_what_the_answers_say() {
+    let files = lot::files();
+    let names: Vec<&str> = files.iter().map(|file| &file.name[..]).collect();
+    let of_lots = ["lot", "long"].map(|folder| {
+        ["sheet.bin", "choice.bin", "words.bin", "README.md"].map(|name| format!("{folder}/{name}"))
+    });
+    assert_eq!(names[..8], of_lots.concat());
+    assert_eq!(names[8..], ["old/sheet.bin", "old/README.md"]);
+    for (plan, readme) in [(LOT, 3), (LONG, 7)] {
+        let lot = Lot::make(plan);
+        let readme = std::str::from_utf8(&files[readme].bytes).unwrap();
+        let rows: Vec<Vec<&str>> = (readme.lines())
+            .map(|line| line.split('|').map(str::trim).collect())
+            .filter(|row: &Vec<&str>| row.len() == 8 && row[1].parse::<usize>().is_ok())
+            .collect();
+        assert_eq!(rows.len(), lot.words.len());
+        for ((at, row), [code, g, m, d]) in rows.iter().enumerate().zip(verdicts(&lot.answers())) {
+            assert_eq!(row[1], (at + 1).to_string());
+            let counts = match code {
+                0..=2 => [g, m, d].map(|number| number.to_string()),
+                18 => [g.to_string(), String::new(), String::new()],
+                _ => [(); 3].map(|()| String::new()),
+            };
+            assert_eq!(row[4..7], counts);
+            let said = match code {
+                0 => "unique".to_string(),
+                1 => "ambiguous".to_string(),
+                2 => "inconsistent".to_string(),
+                _ => format!("refused {code}: "),
+            };
+            assert!(row[3].starts_with(&said), "{row:?}");
+        }
+    }
+}
+
+#[test]
+fn the_old_sheet_converts_to_that_of_the_lot() {
+    let files = lot::files();
+    let file = |name| &files.iter().find(|file| file.name == name).unwrap().bytes;
+    let (old, new) = (file("old/sheet.bin"), file("lot/sheet.bin"));
+    assert_eq!(old.len(), OLD.record_bytes() << 7);
+    let mut out = vec![BEFORE; new.len()];
+    assert_eq!(calls::convert(7, old, &mut out), Answer::code(0));
+    assert_eq!(&out, new);
 }
 
 #[test]
 fn codewords_are_those_of_the_encoder() {
     let mut rng = Rng::new(1);
-    for n in 0..=7 {
-        for r in [0, 6, 11].into_iter().filter(|&r| r < 1 << n) {
-            let (sheet, read) = common::any_sheet(&mut rng, n, r);
-            let codewords = Codewords::new(n, &sheet, r).ok().unwrap();
-            assert_eq!(codewords.bits(), read.k() - r);
-            for _ in 0..10 {
-                let payload = bits(&mut rng, codewords.bits());
-                let mut word = vec![BEFORE; 1 << n];
-                calls::encode(n, &sheet, r, &payload, &mut word);
-                assert_eq!(codewords.of(&payload), word);
-            }
+    for (n, r) in choices() {
+        let (sheet, read) = common::any_sheet(&mut rng, n, r);
+        let codewords = Codewords::new(n, &sheet, r).ok().unwrap();
+        assert_eq!(codewords.bits(), read.k() - r);
+        for _ in 0..10 {
+            let payload = bits(&mut rng, codewords.bits());
+            let mut word = vec![BEFORE; 1 << n];
+            calls::encode(n, &sheet, r, &payload, &mut word);
+            assert_eq!(codewords.of(&payload), word);
         }
     }
     let refusal = |n, sheet: &[u8], r| Codewords::new(n, sheet, r).err();
-    assert_eq!(refusal(0, &[0; 19], 0), Some(Answer::code(11)));
-    assert_eq!(refusal(0, &[2; 20], 0), Some(Answer::at(12, 0)));
-    assert_eq!(refusal(0, &[0; 20], 6), Some(Answer::code(13)));
-    let frozen = [&[1][..], &[0; 19]].concat();
+    assert_eq!(
+        refusal(0, &[0; RECORD_BYTES - 1], 0),
+        Some(Answer::code(11))
+    );
+    assert_eq!(refusal(0, &[2; RECORD_BYTES], 0), Some(Answer::at(12, 0)));
+    assert_eq!(refusal(0, &[0; RECORD_BYTES], 6), Some(Answer::code(13)));
+    let frozen = [&[1][..], &[0; RECORD_BYTES - 1]].concat();
     for r in [0, 6, 5] {
         assert_eq!(refusal(0, &frozen, r), Some(Answer::code(19)));
     }
@@ -178,7 +222,7 @@ fn codewords_are_those_of_the_encoder() {
 
 #[test]
 fn drawn_words_are_the_same_again_and_of_every_kind() {
-    let lot = Lot::make();
+    let lot = Lot::make(LOT);
     let codewords = lot.codewords();
     let draw = |seed, count| -> Vec<Vec<u8>> {
         let mut rng = Rng::new(seed);
@@ -189,7 +233,7 @@ fn drawn_words_are_the_same_again_and_of_every_kind() {
     assert_eq!(words[..20], draw(1, 20));
     assert_ne!(words[..20], draw(2, 20));
     let found = verdicts(&answer_records(&lot.sheet, &lot.choice, &words.concat()));
-    let codes: BTreeSet<u8> = found.iter().map(|found| found[0]).collect();
+    let codes: BTreeSet<u16> = found.iter().map(|found| found[0]).collect();
     assert_eq!(codes, BTreeSet::from([0, 1, 2, 15, 18]));
 }
 
@@ -200,60 +244,91 @@ fn the_programs_are_held_to_every_code() {
     let file = |name| &files.iter().find(|file| file.name == name).unwrap().bytes;
     let input = file("recover/stdin");
     let words: BTreeSet<&[u8]> = input.chunks_exact(128).collect();
-    assert!(words.len() > 300 && words.len() == input.len() / 128);
+    // several runs of 32 words, no two the same
+    assert!(words.len() > 200 && words.len() == input.len() / 128);
     assert!(!input.len().is_multiple_of(128));
     let answers = file("recover/stdout");
-    assert_eq!(answers.len(), 392 * (words.len() + 1));
-    let codes: BTreeSet<u8> = answers.chunks(392).map(|record| record[0]).collect();
+    assert_eq!(answers.len(), ANSWER_BYTES * (words.len() + 1));
+    let code = |record: &[u8]| numbers_of(record)[0];
+    let codes: BTreeSet<u16> = answers.chunks(ANSWER_BYTES).map(code).collect();
     assert_eq!(codes, BTreeSet::from([0, 1, 2, 14, 15, 18]));
+    let different: BTreeSet<&[u8]> = answers.chunks(ANSWER_BYTES).collect();
+    assert!(different.len() > 150, "{}", different.len());
 
     let records = file("show/stdin");
-    assert!(!records.len().is_multiple_of(392));
-    let codes: BTreeSet<u8> = records.chunks_exact(392).map(|record| record[0]).collect();
-    assert!((0..=20).chain([77, 255]).all(|code| codes.contains(&code)));
-    let strip = |record: &[u8]| record[8..136].iter().take_while(|&&b| b != 255).count();
+    assert!(!records.len().is_multiple_of(ANSWER_BYTES));
+    let records: Vec<&[u8]> = records.chunks_exact(ANSWER_BYTES).collect();
+    let codes: BTreeSet<u16> = records.iter().map(|record| code(record)).collect();
+    let wanted = (0..=20).chain([77, 255, 256, 65535]);
+    assert!({ wanted }.all(|code| codes.contains(&code)), "{codes:?}");
+    let of = |wanted: u16| records.iter().filter(move |record| code(record) == wanted);
+    let strip = |record: &&&[u8]| {
+        let strip = record[HEADER_BYTES..][..STRIP_BYTES].iter();
+        strip.take_while(|&&byte| byte != 255).count()
+    };
     for code in [0, 1] {
-        let records = records.chunks_exact(392).filter(|record| record[0] == code);
-        let lengths: BTreeSet<usize> = records.map(strip).collect();
-        assert!([1, 8, 128].iter().all(|length| lengths.contains(length)));
+        let lengths: BTreeSet<usize> = of(code).map(|record| strip(&record)).collect();
+        for length in [1, 8, 128, STRIP_BYTES] {
+            assert!(lengths.contains(&length), "{length}: {lengths:?}");
+        }
     }
     for code in [12, 15] {
-        let records = records.chunks_exact(392).filter(|record| record[0] == code);
-        let digits: BTreeSet<usize> = records.map(|r| r[1].to_string().len()).collect();
-        assert_eq!(digits, BTreeSet::from([1, 2, 3]));
+        let places = of(code).map(|record| numbers_of(record)[1]);
+        let digits: BTreeSet<usize> = places.map(|place| place.to_string().len()).collect();
+        assert_eq!(digits, BTreeSet::from([1, 2, 3, 5]));
+    }
+    // numbers above 255 in every field that is shown
+    for (code, fields) in [
+        (0, &[2, 3, 4][..]),
+        (1, &[2, 3, 4]),
+        (2, &[2, 3, 4]),
+        (12, &[1]),
+        (15, &[1]),
+        (18, &[2]),
+    ] {
+        for &field in fields {
+            let above = |record: &&&[u8]| (256..65535).contains(&numbers_of(record)[field]);
+            assert!(of(code).any(|record| above(&record)), "{code}, {field}");
+        }
     }
     let text = std::str::from_utf8(file("show/stdout")).unwrap();
-    assert_eq!(text, second::show::show(records));
+    assert_eq!(text, second::show::show(file("show/stdin")));
     // a sheet with no free position as a stream answers it, and with other numbers that are not 0
-    let held = |start: [u8; 8]| records.chunks_exact(392).filter(move |r| r[..8] == start);
-    assert!(held([19, 0, 0, 0, 0, 0, 0, 0]).count() > 3);
-    assert!(held([19, 255, 255, 255, 255, 255, 255, 255]).count() > 0);
+    assert!(of(19).filter(|record| ***record == lone(19)).count() > 3);
+    assert!(of(19).any(|record| numbers_of(record)[1..] == [65535; 4]));
     assert!(text.contains("  refused 19    the sheet has no free position: it holds nothing\n"));
     assert!(text.contains("  code 20 is no answer's\n"));
+
+    assert_eq!(file("convert/stdin").len(), OLD.record_bytes() << 7);
+    assert_eq!(file("convert/stdout"), &Lot::make(LOT).sheet);
+    assert_eq!(file("recover/data/sheet.bin"), &Lot::make(LOT).sheet);
 }
 
 #[test]
 fn files_differ_at_the_first_byte_that_does() {
     let dir = folder("files");
-    let file = |name, bytes: &[u8]| File {
-        name,
-        bytes: bytes.to_vec(),
-    };
-    let files = [file("one", &[1, 2, 3]), file("under/two", &[])];
+    let file = |folder, name, bytes: &[u8]| File::new(folder, name, bytes.to_vec());
+    let files = [file("a", "one", &[1, 2, 3]), file("a/under", "two", &[])];
     write(&dir, &files).unwrap();
     assert_eq!(compare(&dir, &files), Ok(()));
     for (bytes, difference) in [
-        (&[1, 9, 9][..], "one differs at byte 1: expected 2, found 9"),
-        (&[1, 2], "one differs at byte 2: expected 3, found the end"),
+        (
+            &[1, 9, 9][..],
+            "a/one differs at byte 1: expected 2, found 9",
+        ),
+        (
+            &[1, 2],
+            "a/one differs at byte 2: expected 3, found the end",
+        ),
         (
             &[1, 2, 3, 4],
-            "one differs at byte 3: expected the end, found 4",
+            "a/one differs at byte 3: expected the end, found 4",
         ),
     ] {
-        std::fs::write(dir.join("one"), bytes).unwrap();
+        std::fs::write(dir.join("a/one"), bytes).unwrap();
         assert_eq!(compare(&dir, &files), Err(difference.to_string()));
     }
-    std::fs::remove_file(dir.join("one")).unwrap();
+    std::fs::remove_file(dir.join("a/one")).unwrap();
     let difference = compare(&dir, &files).unwrap_err();
-    assert!(difference.starts_with("one cannot be read: "));
+    assert!(difference.starts_with("a/one cannot be read: "));
 }
