@@ -203,31 +203,40 @@ fn requests_to_measure_by() {
 
 #[test]
 fn a_wrong_or_missing_file_fails_the_comparison() {
-    for (make, compare, file) in [
-        ("lots", "compare-lots", "lot/words.bin"),
-        ("lots", "compare-lots", "long/README.md"),
-        ("lots", "compare-lots", "old/sheet.bin"),
-        ("programs", "compare-programs", "show/stdout"),
-        ("programs", "compare-programs", "convert/stdout"),
+    for (make, compare, files) in [
+        (
+            "lots",
+            "compare-lots",
+            &["lot/words.bin", "long/README.md", "old/sheet.bin"][..],
+        ),
+        (
+            "programs",
+            "compare-programs",
+            &["show/stdout", "convert/stdout"],
+        ),
     ] {
         let dir = folder(make);
         let path = dir.to_str().unwrap();
         written(&[make, path], &[]);
         written(&[compare, path], &[]);
-        let mut bytes = std::fs::read(dir.join(file)).unwrap();
-        let expected = bytes[30];
-        bytes[30] = 3;
-        std::fs::write(dir.join(file), bytes).unwrap();
-        let output = run(&[compare, path], &[]);
-        assert_eq!(output.status.code(), Some(1));
-        let message = format!("second: {file} differs at byte 30: expected {expected}, found 3\n");
-        assert_eq!(String::from_utf8(output.stderr).unwrap(), message);
-        std::fs::remove_file(dir.join(file)).unwrap();
-        let output = run(&[compare, path], &[]);
-        assert_eq!(output.status.code(), Some(1));
-        let message = format!("second: {file} cannot be read: ");
-        assert!(String::from_utf8(output.stderr)
-            .unwrap()
-            .starts_with(&message));
+        let said = |message: String| {
+            let output = run(&[compare, path], &[]);
+            assert_eq!(output.status.code(), Some(1));
+            let text = String::from_utf8(output.stderr).unwrap();
+            assert!(text.starts_with(&message), "{text}");
+        };
+        for file in files {
+            let right = std::fs::read(dir.join(file)).unwrap();
+            let mut wrong = right.clone();
+            wrong[30] = 3;
+            std::fs::write(dir.join(file), wrong).unwrap();
+            said(format!(
+                "second: {file} differs at byte 30: expected {}, found 3\n",
+                right[30]
+            ));
+            std::fs::remove_file(dir.join(file)).unwrap();
+            said(format!("second: {file} cannot be read: "));
+            std::fs::write(dir.join(file), right).unwrap();
+        }
     }
 }

@@ -139,7 +139,7 @@ fn broken(i: usize, length: usize, record: &[u8]) -> BTreeSet<u8> {
 /// A request with its answer and its output.
 type Answered = (Request, Answer, Vec<u8>);
 
-/// Every request of an op, answered once.
+/// Every request of an op, made and answered once.
 fn answered(op: u16) -> &'static [Answered] {
     static ALL: [OnceLock<Vec<Answered>>; 6] = [const { OnceLock::new() }; 6];
     ALL[usize::from(op)].get_or_init(|| {
@@ -184,8 +184,8 @@ fn telling_places(n: u16) -> &'static [u16] {
 #[test]
 fn the_vectors_follow_their_ops() {
     assert!(requests::OPS.is_sorted_by(|a, b| a < b));
-    let lists = requests::OPS.map(requests::of);
-    assert_eq!(requests::all(), lists.concat());
+    let lists = requests::OPS.into_iter().flat_map(answered);
+    assert!(lists.map(|(request, ..)| request).eq(&requests::all()));
 }
 
 #[test]
@@ -193,9 +193,9 @@ fn every_list_has_its_size() {
     let mut sizes = Vec::new();
     let mut counts = Vec::new();
     for op in requests::OPS {
-        let list = requests::of(op);
+        let list = answered(op);
         let mut size = 0;
-        for request in &list {
+        for (request, ..) in list {
             assert_eq!(request.op, op);
             let bytes = bytes_of(request);
             assert_eq!(Request::read(&mut &bytes[..]).as_ref(), Some(request));
@@ -816,9 +816,14 @@ fn damaged_words_tell_the_check_from_its_misreadings() {
         let (n, r) = (decoded.n as u16, decoded.r as u16);
         if decoded.numbers[0] == 2 && r > 0 && decoded.word.contains(&2) {
             for misreading in MISREADINGS {
+                let count = told.entry((n, r, misreading)).or_default();
+                // of long codes one is enough
+                if n >= LONG && *count > 0 {
+                    continue;
+                }
                 let code = misread_code(&decoded, misreading);
                 if code < 2 {
-                    *told.entry((n, r, misreading)).or_default() += 1;
+                    *count += 1;
                     codes.insert((r, misreading, code));
                 }
             }
