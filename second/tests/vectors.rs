@@ -1073,14 +1073,16 @@ fn possible(n: u16, r: u16, g: u16, verdict: u16) -> bool {
 fn unknowns_on_both_sides_of_each_word() {
     let mut alone = BTreeSet::new();
     let mut streamed = BTreeSet::new();
+    let mut at_g = BTreeSet::new();
     let mut refused = BTreeSet::new();
     for (request, answer, _) in answered(2) {
         match answer.code {
             0..=2 => {
                 alone.insert((request.n, request.r, answer.g, answer.code));
+                at_g.extend((request.ceiling == answer.g).then_some((request.n, answer.g)));
             }
             18 => {
-                refused.insert((request.n, answer.g));
+                refused.insert((request.n, answer.g, request.ceiling));
             }
             _ => {}
         }
@@ -1111,10 +1113,13 @@ fn unknowns_on_both_sides_of_each_word() {
                 assert!(has || !near || !can, "n {n}, g {g}, {code}");
             }
             assert!(seen > 0, "n {n}, g {g}");
+            assert!(!near || at_g.contains(&(n, g)), "n {n}, g {g}");
+            let edge = g > 0 && (g % 64 == 0 || g == 255);
+            assert!(!edge || refused.contains(&(n, g, g - 1)), "n {n}, g {g}");
         }
     }
     for (n, g) in [(8, 256), (9, 256), (9, 512)] {
-        assert!(refused.contains(&(n, g)), "n {n}, g {g}");
+        assert!(refused.contains(&(n, g, 255)), "n {n}, g {g}");
     }
 }
 

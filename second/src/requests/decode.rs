@@ -14,6 +14,7 @@ use crate::make::{bits, bytes, damaged, every_word, MISREADINGS, STYLES};
 use crate::protocol::Request;
 use crate::rng::Rng;
 use crate::sheet::Record;
+use std::collections::BTreeSet;
 
 pub fn all() -> Vec<Request> {
     [
@@ -166,8 +167,8 @@ fn ceilings() -> Vec<Request> {
     list
 }
 
-/// Words of each verdict at the borders of g, under the ceiling g or the largest; one in six also
-/// under g - 1 or above the largest. Next to a border every verdict, under every check length in the
+/// Words of each verdict at the borders of g, under the ceiling g or the largest; without unknowns
+/// one also above the largest, and at each multiple of 64 and the largest ceiling one under g - 1. Next to a border every verdict, under every check length in the
 /// shortest of the long codes and else under one; further off one verdict and check length.
 fn unknowns_at_borders() -> Vec<Request> {
     let mut rng = Rng::new(212);
@@ -180,17 +181,17 @@ fn unknowns_at_borders() -> Vec<Request> {
                 let case = turn % cases.len();
                 cases = vec![cases[case]];
             } else if n > LONG {
-                let mut kept = [false; 3];
                 cases.rotate_left(turn % 3);
-                cases.retain(|case| !std::mem::replace(&mut kept[usize::from(case.verdict)], true));
+                let mut seen = BTreeSet::new();
+                cases.retain(|case| seen.insert(case.verdict));
             }
-            for case in cases {
+            for (at, case) in cases.into_iter().enumerate() {
                 let (code, word) = unknowns::word(&mut rng, n, g, case, turn + list.len());
-                let mut ceilings = vec![rng.pick(&[g, LARGEST_CEILING])];
-                match list.len() % 12 {
-                    0 => ceilings.push(g.max(1) - 1),
-                    6 => ceilings.push(LARGEST_CEILING + 1),
-                    _ => {}
+                let mut ceilings = vec![[g, LARGEST_CEILING][at % 2]];
+                if at == 0 && g == 0 {
+                    ceilings.push(LARGEST_CEILING + 1);
+                } else if at == 0 && (g % 64 == 0 || g == LARGEST_CEILING) {
+                    ceilings.push(g - 1);
                 }
                 for ceiling in ceilings {
                     list.push(decode_in_room(&mut rng, &code, word.clone(), ceiling));
