@@ -6,7 +6,7 @@ use crate::answer::Answer;
 use crate::calls::{answer_record, answer_records};
 use crate::files::File;
 use crate::layout::NEW;
-use crate::limits::{HEADER_BYTES, RECORD_BYTES, STRIP_BYTES};
+use crate::limits::{HEADER_BYTES, LARGEST_CEILING, LARGEST_EXPONENT, RECORD_BYTES, STRIP_BYTES};
 use crate::lot::{Lot, LONG, LOT};
 use crate::make::{any_codeword, bits, damaged, good, spoil, Fault, STYLES};
 use crate::rng::Rng;
@@ -73,20 +73,21 @@ fn short_words(rng: &mut Rng, n: usize, k: usize) -> Vec<u8> {
     records
 }
 
-/// The refusals a stream can give, with places of one, two and three digits, of one byte and of two.
+/// The refusals a stream can give, with places of one to three digits, of one byte and of two.
 fn refusals(rng: &mut Rng) -> Vec<u8> {
-    let length = 512;
-    let sheet = good(rng, length, 300, STYLES[3]);
+    let length = 1 << LARGEST_EXPONENT;
+    let most = LARGEST_CEILING as u8;
+    let sheet = good(rng, length, LARGEST_CEILING + 45, STYLES[3]);
     let right = RECORD_BYTES * length;
     let word = vec![2; length];
     let mut records = Vec::new();
     for (length, choice) in [
-        (0, &[0, 255][..]),
-        (right - 1, &[0, 255]),
+        (0, &[0, most][..]),
+        (right - 1, &[0, most]),
         (right, &[]),
-        (right, &[0, 255, 0]),
-        (right, &[5, 255]),
-        (right, &[0, 255]),
+        (right, &[0, most, 0]),
+        (right, &[5, most]),
+        (right, &[0, most]),
         (right, &[0, 0]),
     ] {
         records.extend(answer_records(&sheet[..length], choice, &word));
@@ -94,13 +95,13 @@ fn refusals(rng: &mut Rng) -> Vec<u8> {
     for place in [0, 9, 10, 99, 100, 255, 256, length - 1] {
         let mut bad_sheet = sheet.clone();
         spoil(rng, NEW, &mut bad_sheet, place, Fault::ByteTwo);
-        records.extend(answer_records(&bad_sheet, &[0, 255], &word));
+        records.extend(answer_records(&bad_sheet, &[0, most], &word));
         let mut bad_word = word.clone();
         bad_word[place] = 3;
-        records.extend(answer_records(&sheet, &[0, 255], &bad_word));
+        records.extend(answer_records(&sheet, &[0, most], &bad_word));
     }
-    records.extend(answer_records(&sheet, &[0, 255], &word[1..]));
-    // no free position: two words, the last cut off where N allows it, under right and wrong choices
+    records.extend(answer_records(&sheet, &[0, most], &word[1..]));
+    // no free position: two words, the last cut off where N allows it, under right and wrong ones
     for (n, choice) in [(0, [0, 63]), (3, [0, 63]), (7, [11, 64])] {
         let sheet = good(rng, 1 << n, 0, STYLES[3]);
         let input = vec![0; (1 << n) + 1];

@@ -1054,7 +1054,7 @@ fn borders() -> Vec<u16> {
     for middle in [64, 128, 192] {
         list.extend(middle - 2..=middle + 2);
     }
-    list.extend(252..=255);
+    list.extend(LARGEST_CEILING as u16 - 3..=LARGEST_CEILING as u16);
     list
 }
 
@@ -1114,12 +1114,13 @@ fn unknowns_on_both_sides_of_each_word() {
             }
             assert!(seen > 0, "n {n}, g {g}");
             assert!(!near || at_g.contains(&(n, g)), "n {n}, g {g}");
-            let edge = g > 0 && (g % 64 == 0 || g == 255);
+            let edge = g > 0 && (g % 64 == 0 || usize::from(g) == LARGEST_CEILING);
             assert!(!edge || refused.contains(&(n, g, g - 1)), "n {n}, g {g}");
         }
     }
-    for (n, g) in [(8, 256), (9, 256), (9, 512)] {
-        assert!(refused.contains(&(n, g, 255)), "n {n}, g {g}");
+    let most = LARGEST_CEILING as u16;
+    for (n, g) in [(LONG + 1, most + 1), (MOST, most + 1), (MOST, 1 << MOST)] {
+        assert!(refused.contains(&(n, g, most)), "n {n}, g {g}");
     }
 }
 

@@ -221,20 +221,15 @@ impl Code {
         Code { n, r, sheet }
     }
 
-    /// The positions of one kind are free, and each other one names one of them alone, or all before
-    /// it but that one: every second position, the others, and the left half.
+    /// Every second position is frozen, or each of the others but the first, or the right half; each
+    /// names one free position alone, the one before it or the one half of N before it, or all before
+    /// it but that one.
     pub fn by_single_bits(n: usize) -> Vec<Code> {
-        let half = 1 << (n - 1);
-        let pairs: [(fn(usize, usize) -> bool, usize); 3] = [
-            (|i, _| i % 2 == 0, 1),
-            (|i, _| i % 2 == 1, 1),
-            (|i, half| i < half, half),
-        ];
         let mut list = Vec::new();
-        for (is_free, distance) in pairs {
+        for (distance, frozen) in [(1, 1), (1, 0), (1 << (n - 1), 1)] {
             for alone in [true, false] {
                 let record = |i: usize| match i.checked_sub(distance) {
-                    Some(named) if !is_free(i, half) => Record {
+                    Some(named) if i / distance % 2 == frozen => Record {
                         frozen: true,
                         constant: false,
                         named: (0..i).filter(|&j| (j == named) == alone).collect(),
