@@ -443,11 +443,12 @@ fn sheets_with_no_free_position() {
                 assert!(refused.contains(&(n, r)), "op {op}, n {n}, r {r}");
             }
             // one symbol is the first alone, two have none between
-            let places = [&[0][..], &[0, 2], &[0, 1, 2], &[]][match n {
-                0..2 => usize::from(n),
-                2..5 => 2,
-                _ => 3,
-            }];
+            let places = match n {
+                0 => &[0][..],
+                1 => &[0, 2],
+                2..5 => &[0, 1, 2],
+                _ => &[],
+            };
             for &place in places {
                 assert!(bad.contains(&(n, place)), "op {op}, n {n}, place {place}");
             }
