@@ -2,6 +2,7 @@
 
 use crate::answer::ORDER;
 use crate::calls::ANSWER_BYTES;
+use crate::layout::OLD;
 use crate::limits::{HEADER_BYTES, LARGEST_CEILING, LARGEST_EXPONENT, RECORD_BYTES, STRIP_BYTES};
 
 /// The kinds of record that are counted, by the name in front of their count.
@@ -46,8 +47,10 @@ pub fn verdict(code: u16) -> String {
 pub fn refusal(code: u16, place: u16) -> String {
     match code {
         11 => format!(
-            "the sheet is not {RECORD_BYTES} N bytes long for an N up to {}",
-            1 << LARGEST_EXPONENT
+            "the sheet is not {RECORD_BYTES} N bytes long for an N up to {}; \
+             one of {} N is old, and is to be converted",
+            1 << LARGEST_EXPONENT,
+            OLD.record_bytes(),
         ),
         12 => format!("record {place} of the sheet breaks a rule"),
         13 => "choice.bin is not two bytes, or its check length is not 0, 6 or 11, \

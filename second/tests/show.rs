@@ -35,7 +35,8 @@ fn refusals() {
         (
             Answer::code(11),
             &format!(
-                "refused 11    the sheet is not {RECORD_BYTES} N bytes long for an N up to {}",
+                "refused 11    the sheet is not {RECORD_BYTES} N bytes long for an N up to {}; \
+                 one of 20 N is old, and is to be converted",
                 1 << LARGEST_EXPONENT
             ),
         ),

@@ -50,7 +50,9 @@ fn too_many(g: u64) -> bool {
 // A refusal, and what it means; a code that no answer has.
 fn refusal(code: u64, place: u64, g: u64) -> bool {
     match code {
-        11 => text::say(b"refused 11    the sheet is not 68 N bytes long for an N up to 512"),
+        11 => text::say(
+            b"refused 11    the sheet is not 68 N bytes long for an N up to 512; one of 20 N is old, and is to be converted",
+        ),
         12 => at(
             b"refused 12    record ",
             place,

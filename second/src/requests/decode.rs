@@ -404,7 +404,7 @@ fn any_ceiling(rng: &mut Rng, code: &Code, word: &[u8]) -> usize {
 fn any_words() -> Vec<Request> {
     let mut rng = Rng::new(216);
     let mut list = Vec::new();
-    let counts = [30, 300, 300, 300, 150, 57, 21, 6, 0, 0];
+    let counts = [30, 300, 300, 300, 300, 400, 400, 120, 20, 20];
     for (n, count) in counts.into_iter().enumerate() {
         for round in 0..count {
             let code = any_code(&mut rng, n, suited(n, CHECKS[round % 3]));
