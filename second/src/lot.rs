@@ -10,7 +10,7 @@ use crate::layout::OLD;
 use crate::make::bytes;
 use crate::rng::Rng;
 use crate::sheet::{Record, Sheet};
-use crate::show::{self, refusal, show, verdict};
+use crate::show::{self, refusal, show, verdict, Options};
 use crate::words::Codewords;
 
 /// What a lot is made from.
@@ -341,7 +341,7 @@ impl Lot {
         let rows: String = (answers.chunks(ANSWER_BYTES).enumerate())
             .map(|(at, record)| row(at + 1, &self.done(at + 1), record))
             .collect();
-        let shown = show(&answers);
+        let shown = show(&answers, &Options::default());
         let (_, counts) = shown.split_once("\n\n").expect("an empty line");
         let counts: String = counts.lines().map(|line| format!("    {line}\n")).collect();
         format!(
@@ -358,21 +358,30 @@ The vault lost {count} cartridges: {lost}. The first records were read before th
 
 ## What is to be seen
 
+From the root of the tree:
+
+    bin/recover examples/{folder} < examples/{folder}/words.bin | \
+bin/show --lot examples/{folder} --words examples/{folder}/words.bin
+
 `recover` answers `words.bin`, and `show` prints the answers. The second program says the same:
 
-    second stream . < words.bin | second show
+    second stream examples/{folder} < examples/{folder}/words.bin | \
+second show --lot examples/{folder} --words examples/{folder}/words.bin
 
 g: unknowns. m: equations. d: 2 to the d contents agree. What is left empty here `show` does not print either.
 
 | record | what was done to it | `show` says | g | m | d |
 |---|---|---|---|---|---|
 {rows}
-and at the end
+and then
 
 {counts}
+and last what each pattern of losses costs.
+
 These files are made by `second lots` and held by `second compare-lots`.
 ",
             title = self.plan.title,
+            folder = self.plan.folder,
             check = self.plan.check,
             ceiling = self.plan.ceiling,
             count = self.plan.lost,

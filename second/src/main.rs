@@ -4,13 +4,14 @@
 
 use second::calls;
 use second::files::{self, first_difference, shown, File};
+use second::limits;
 use second::lot;
 use second::pace::Pace;
 use second::programs;
 use second::protocol::{write_answer, Request};
-use second::requests;
+use second::requests::{self, Code};
 use second::rng::Rng;
-use second::show::show;
+use second::show::{self, Options};
 use second::words::Codewords;
 use std::collections::BTreeMap;
 use std::io::{self, Read, Write};
@@ -25,8 +26,12 @@ const USAGE: &str = "usage:
                                 write so many requests to measure by: CALL is check_sheet, encode or
                                 decode, of words that lost so many symbols; LAYOUT is new or old
   second stream DIR             answer the words on standard input, by DIR/sheet.bin and DIR/choice.bin
-  second show                   print the answer records on standard input for a person
+  second show [--words FILE --lot DIR] [--problems] [--strips]
+                                print the answer records on standard input for a person; with the
+                                words that they answer, and the folder of their sheet, also places
+  second lines                  print what each of them says alone, as soon as it is read
   second words DIR COUNT SEED   write so many damaged words of DIR/sheet.bin and DIR/choice.bin
+  second sheet n r SEED         write a good sheet of 2 to the n positions, drawn for check length r
   second lots EXAMPLES          write the sample lots and an old sheet, each in its folder
   second compare-lots EXAMPLES  make them again and compare
   second programs CRATES        write what recover, show and convert read and must write
@@ -174,6 +179,54 @@ fn stream(dir: &Path) -> io::Result<()> {
     io::stdout().write_all(&calls::answer_records(&sheet, &choice, &words))
 }
 
+/// What show is asked for; none where that is not understood. Words need a lot and a lot words.
+fn show_options(mut arguments: &[&str]) -> io::Result<Option<Options>> {
+    let mut options = Options::default();
+    let (mut words, mut lot) = (None, None);
+    loop {
+        arguments = match arguments {
+            [] => break,
+            ["--problems", rest @ ..] => {
+                options.problems = true;
+                rest
+            }
+            ["--strips", rest @ ..] => {
+                options.strips = true;
+                rest
+            }
+            ["--words", file, rest @ ..] => {
+                words = Some(std::fs::read(file)?);
+                rest
+            }
+            ["--lot", dir, rest @ ..] => {
+                lot = Some(std::fs::read(Path::new(dir).join("sheet.bin"))?);
+                rest
+            }
+            _ => return Ok(None),
+        }
+    }
+    match (words, lot) {
+        (None, None) => {}
+        (Some(words), Some(sheet)) => {
+            let words = show::Words::new(&sheet, words);
+            options.words = Some(words.ok_or(io::Error::other("the sheet has a wrong length"))?);
+        }
+        _ => return Ok(None),
+    }
+    Ok(Some(options))
+}
+
+/// Says what each record on standard input says, one at a time.
+fn lines() -> io::Result<()> {
+    let mut record = [0; calls::ANSWER_BYTES];
+    let mut out = io::stdout().lock();
+    while io::stdin().read_exact(&mut record).is_ok() {
+        out.write_all(show::lines(&record).as_bytes())?;
+        out.flush()?;
+    }
+    Ok(())
+}
+
 /// Writes so many damaged words of a folder's sheet.
 fn words(dir: &Path, count: &str, seed: &str) -> io::Result<()> {
     let number = |text: &str| text.parse::<u64>().map_err(io::Error::other);
@@ -188,6 +241,17 @@ fn words(dir: &Path, count: &str, seed: &str) -> io::Result<()> {
         out.write_all(&codewords.damaged(&mut rng))?;
     }
     out.flush()
+}
+
+/// Writes a good sheet whose free positions are those of the most ones, half of all but for the check.
+fn sheet(n: &str, r: &str, seed: &str) -> io::Result<()> {
+    let number = |text: &str| text.parse::<usize>().map_err(io::Error::other);
+    let (n, r, mut rng) = (number(n)?, number(r)?, Rng::new(number(seed)? as u64));
+    let k = ((1 << n) / 2).max(1) + r;
+    if n > limits::LARGEST_EXPONENT || k > 1 << n {
+        return Err(io::Error::other("no such sheet"));
+    }
+    io::stdout().write_all(&Code::weighted(&mut rng, n, r, k).sheet)
 }
 
 /// One line of sizes with what came of them.
@@ -226,6 +290,12 @@ fn outcome(compared: Result<String, String>) -> ExitCode {
     }
 }
 
+/// Says how the commands are used.
+fn misused() -> ExitCode {
+    eprint!("{USAGE}");
+    ExitCode::from(2)
+}
+
 fn run(arguments: &[&str]) -> io::Result<ExitCode> {
     match arguments {
         ["vectors", dir] => print!("{}", write_vectors(Path::new(dir))?),
@@ -235,18 +305,22 @@ fn run(arguments: &[&str]) -> io::Result<ExitCode> {
             pace(Pace::new(call, length, lost, layout), count)?
         }
         ["stream", dir] => stream(Path::new(dir))?,
-        ["show"] => io::stdout().write_all(show(&input()).as_bytes())?,
+        ["show", options @ ..] => match show_options(options)? {
+            Some(options) => {
+                io::stdout().write_all(show::show(&input(), &options).as_bytes())?;
+            }
+            None => return Ok(misused()),
+        },
+        ["lines"] => lines()?,
         ["words", dir, count, seed] => words(Path::new(dir), count, seed)?,
+        ["sheet", n, r, seed] => sheet(n, r, seed)?,
         ["lots", dir] => print!("{}", write_files(Path::new(dir), &lot::files())?),
         ["compare-lots", dir] => return Ok(outcome(compare_files(Path::new(dir), &lot::files()))),
         ["programs", dir] => print!("{}", write_files(Path::new(dir), &programs::files())?),
         ["compare-programs", dir] => {
             return Ok(outcome(compare_files(Path::new(dir), &programs::files())))
         }
-        _ => {
-            eprint!("{USAGE}");
-            return Ok(ExitCode::from(2));
-        }
+        _ => return Ok(misused()),
     }
     Ok(ExitCode::SUCCESS)
 }

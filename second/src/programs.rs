@@ -1,6 +1,6 @@
 // What the programs are held to: for each, its standard input, the files it reads, and what it must
-// write. `recover` answers a stream of words; `show` prints answer records for a person; `convert`
-// turns an old sheet into one of today's layout.
+// write. `recover` answers a stream of words; `show` says what each answer record means; `convert` turns an
+// old sheet into one of today's layout.
 
 use crate::answer::Answer;
 use crate::calls::{answer_record, answer_records};
@@ -10,7 +10,7 @@ use crate::limits::{HEADER_BYTES, LARGEST_CEILING, LARGEST_EXPONENT, RECORD_BYTE
 use crate::lot::{Lot, LONG, LOT};
 use crate::make::{any_codeword, bits, damaged, good, spoil, Fault, STYLES};
 use crate::rng::Rng;
-use crate::show::show;
+use crate::show::lines;
 
 /// Their files, by their names under the folder of the crates.
 pub fn files() -> Vec<File> {
@@ -18,7 +18,7 @@ pub fn files() -> Vec<File> {
     let words = recover_input(&lot);
     let answers = answer_records(&lot.sheet, &lot.choice, &words);
     let records = show_input(&lot, &long);
-    let text = show(&records).into_bytes();
+    let text = lines(&records).into_bytes();
     vec![
         File::new("convert", "stdin", lot.old_sheet()),
         File::new("convert", "stdout", lot.sheet.clone()),

@@ -1,11 +1,12 @@
-// The commands as they are run: stream, show, words, pace, and the comparisons.
+// The commands as they are run: stream, show, lines, sheet, words, pace, and the comparisons.
 
 mod common;
 use common::{folder, lone, record, sheet_e, symbols};
 use second::layout::{NEW, OLD};
 use second::limits::RECORD_BYTES;
 use second::protocol::Request;
-use std::io::Write;
+use second::sheet::Sheet;
+use std::io::{BufRead, BufReader, Write};
 use std::path::{Path, PathBuf};
 use std::process::{Command, Output, Stdio};
 
@@ -63,9 +64,25 @@ fn the_whole_stream_of_the_bench() {
     assert_eq!(answers, expected);
     assert_eq!(written(&["stream", dir.to_str().unwrap()], &[]), []);
     let text = written(&["show"], &answers);
-    let lines = "     1  unique        g   0  m   4  d   0  01111000\n\
+    let lines = "     1  unique        g   0  m   4  d   0\n\
                  \u{20}    2  refused 14    the word is cut off\n\n";
     assert!(String::from_utf8(text).unwrap().starts_with(lines));
+}
+
+#[test]
+fn a_sheet_is_drawn_for_each_size_and_check() {
+    for (n, r) in [("0", 0), ("1", 0), ("5", 11), ("6", 6), ("9", 11)] {
+        let bytes = written(&["sheet", n, &r.to_string(), "1"], &[]);
+        let n = n.parse().unwrap();
+        assert_eq!(bytes.len(), RECORD_BYTES << n);
+        let sheet = Sheet::read(n, &bytes, r).unwrap();
+        assert_eq!(sheet.k(), ((1 << n) / 2).max(1) + r);
+    }
+    for wrong in [["10", "0"], ["3", "11"]] {
+        assert!(!run(&["sheet", wrong[0], wrong[1], "1"], &[])
+            .status
+            .success());
+    }
 }
 
 #[test]
@@ -109,6 +126,52 @@ fn checks_of_the_words_come_one_by_one() {
     let text = String::from_utf8(written(&["show"], &answers)).unwrap();
     let line = "     3  refused 19    the sheet has no free position: it holds nothing\n";
     assert!(text.contains(line), "{text}");
+}
+
+#[test]
+fn show_with_words() {
+    let dir = stream_folder("show", Some(&sheet_e()), Some(&[0, 63]));
+    let words = dir.join("words.bin");
+    std::fs::write(&words, symbols("022112202")).unwrap();
+    let [dir, words] = [&dir, &words].map(|path| path.to_str().unwrap());
+    let answers = written(&["stream", dir], &symbols("022112202"));
+    let both = ["--lot", dir, "--words", words];
+    let shown = |options: &[&str]| {
+        let text = written(&[&["show"], options].concat(), &answers);
+        String::from_utf8(text).unwrap()
+    };
+    let line =
+        "     1  ambiguous     g   1  m   1  d   1  lost 1-2, 5-6; settled none; open 1-2, 5-6\n";
+    let text = shown(&both);
+    assert!(text.starts_with(line) && text.contains("\n     2  refused 14 "));
+    assert!(text.ends_with("  lost 1-2, 5-6; open 1-2, 5-6\n"));
+    let text = shown(&[&both[..], &["--strips", "--problems"]].concat());
+    assert!(text.starts_with(&format!("{line}        settled  02211220\n")));
+    for wrong in [
+        &both[..2],
+        &both[2..],
+        &both[..3],
+        &["--problem"],
+        &["--strips", "x"],
+    ] {
+        let output = run(&[&["show"], wrong].concat(), &[]);
+        assert!(output.status.code() == Some(2) && output.stdout.is_empty());
+    }
+    // the lines alone, one by one
+    let mut child = command(&["lines"]).spawn().unwrap();
+    let mut input = child.stdin.take().unwrap();
+    let mut output = BufReader::new(child.stdout.take().unwrap());
+    for (record, line) in answers.chunks(answers.len() / 2).zip([
+        "ambiguous     g   1  m   1  d   1\n",
+        "refused 14    the word is cut off\n",
+    ]) {
+        input.write_all(record).unwrap();
+        let mut found = String::new();
+        output.read_line(&mut found).unwrap();
+        assert_eq!(found, line);
+    }
+    drop(input);
+    assert!(child.wait().unwrap().success());
 }
 
 #[test]

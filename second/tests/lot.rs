@@ -292,12 +292,13 @@ fn the_programs_are_held_to_every_code() {
         }
     }
     let text = std::str::from_utf8(file("show/stdout")).unwrap();
-    assert_eq!(text, second::show::show(file("show/stdin")));
+    assert_eq!(text, second::show::lines(file("show/stdin")));
+    assert_eq!(text.lines().count(), records.len());
     // a sheet with no free position as a stream answers it, and with other numbers that are not 0
     assert!(of(19).filter(|record| ***record == lone(19)).count() > 3);
     assert!(of(19).any(|record| numbers_of(record)[1..] == [65535; 4]));
-    assert!(text.contains("  refused 19    the sheet has no free position: it holds nothing\n"));
-    assert!(text.contains("  code 20 is no answer's\n"));
+    assert!(text.contains("\nrefused 19    the sheet has no free position: it holds nothing\n"));
+    assert!(text.contains("\ncode 20 is no answer's\n"));
 
     assert_eq!(file("convert/stdin").len(), OLD.record_bytes() << 7);
     assert_eq!(file("convert/stdout"), &Lot::make(LOT).sheet);

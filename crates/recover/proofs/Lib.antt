@@ -1,2 +1,5 @@
--- Runs: the records of a run have room.
+-- Runs: the records of a run have room. Decisions: tests of signed numbers.
+-- Joined: what is written, run by run, are the records of the whole input.
 pub mod Runs
+pub mod Decisions
+pub mod Joined

@@ -1,12 +1,19 @@
 // Answers a stream of words. Reads sheet.bin and choice.bin in the folder that it is run in, and words of N bytes on standard
 // input; writes a record for each to standard output, as 01 says. The answers are those of `stream::answer`, by
-// runs of whole words and then the rest; that this gives the same bytes is a theorem (stream/proofs/Promise, `cut`).
+// runs of whole words and then the rest; that these are the records of the whole input is a theorem (proofs/Joined,
+// `runs-joined`; stream/proofs/Promise, `cut-all`).
+// What cannot be read or written, and a file of wrong length, is said on standard error; else nothing is.
 ghost use mathlib.Core.Path.{_≡_};
 ghost use Prim.Native.Nat.{_*_, _^_, _≤_};
-ghost use lib.ListN.{length};
+ghost use mathlib.Core.List.{[]};
+ghost use lib.ListN.{length, take};
 ghost use Rattle.meaning.specs.Limits.{largestN};
 ghost use Rattle.meaning.specs.Stream.{answerBytes, records};
-ghost use Rattle.recover.specs.Runs.{runWords, Ready};
+ghost use Rattle.recover.specs.Runs.{runWords, Ready, Filled, Ends};
+
+mod decide;
+mod files;
+
 use libc::STDERR_FILENO;
 use libc::STDIN_FILENO;
 use libc::STDOUT_FILENO;
@@ -27,80 +34,112 @@ const INPUT: usize = RUN * limits::POSITIONS;
 // The bytes of the records of a run.
 const OUTPUT: usize = RUN * limits::ANSWER;
 
-// Whether the file has been read to its end.
-fn ended(fd: i32) -> bool {
-    let mut more = [0u8; 1];
-    libc::read(fd, &mut more) == 0
+// How many turns were made, and whether there was more to come.
+struct Progress {
+    made: u64,
+    more: bool,
 }
 
-// Reads a file into buf, as far as it has room, and answers how many bytes; 0 where it is missing or cannot be read.
-fn load(path: &[u8], buf: &mut [u8]) -> usize
-    ensures { λ r. ⌜ r ≤ length (now (buf .exit)) ⌝ }
+// Says s on standard error.
+fn say(s: &[u8]) {
+    io::write_all(STDERR_FILENO, s);
+}
+
+// Fills in the records of the first `got` bytes of the input, and answers how many bytes they are.
+fn fill(sheet: &[u8], choice: &[u8], input: &[u8], got: usize, out: &mut [u8]) -> usize
+    requires { ⌜ (got ≤ length (now input)) × (length (records (now sheet) (now choice) (take got (now input))) * answerBytes ≤ length (now out)) ⌝ }
+    ensures { λ r. ⌜ Filled (now (sheet .entry)) (now (choice .entry)) (take got (now (input .entry))) (now (out .entry)) (now (out .exit)) r ⌝ }
 {
-    let fd = os::open_read(path);
-    if fd < 0 {
-        return 0;
-    }
-    let n = io::read_full(fd, buf);
-    let whole = n == buf.len() || ended(fd);
-    libc::close(fd);
-    if !whole {
-        return 0;
-    }
-    n
+    let k = stream::records(sheet, choice, &input[0..got]);
+    stream::answer(sheet, choice, &input[0..got], out);
+    k * limits::ANSWER
 }
 
 // Writes s to standard output, or says on standard error that it cannot; answers whether it could.
 fn write(s: &[u8]) -> bool {
     let written = io::write_all(STDOUT_FILENO, s);
     if !written {
-        io::write_all(
-            STDERR_FILENO,
-            b"recover: cannot write, some records are missing\n",
-        );
+        os::fail(b"recover: standard output, records are missing");
     }
     written
 }
 
-// Answers an input and writes its records; answers whether it could.
-fn answer(sheet: &[u8], choice: &[u8], input: &[u8], out: &mut [u8]) -> bool
-    requires { ⌜ length (records (now sheet) (now choice) (now input)) * answerBytes ≤ length (now out) ⌝ }
+// Answers the first `got` bytes of the input and writes their records; answers whether it could.
+fn answer(sheet: &[u8], choice: &[u8], input: &[u8], got: usize, out: &mut [u8]) -> bool
+    requires { ⌜ (got ≤ length (now input)) × (length (records (now sheet) (now choice) (take got (now input))) * answerBytes ≤ length (now out)) ⌝ }
 {
-    let k = stream::records(sheet, choice, input);
-    stream::answer(sheet, choice, input, out);
-    write(&out[0..k * limits::ANSWER])
+    let k = fill(sheet, choice, input, got, out);
+    write(&out[0..k])
 }
 
-// Reads a run of words and answers it; answers whether to go on.
+// Reads a run of words, answers it and answers whether to go on. A read that fails ends the input, and is said.
 fn turn(sheet: &[u8], choice: &[u8], input: &mut [u8], out: &mut [u8]) -> bool
     requires { ⌜ Ready (now sheet) (now choice) (length (now input)) (length (now out)) ⌝ }
 {
     let got = io::read_full(STDIN_FILENO, input);
-    answer(sheet, choice, &input[0..got], out) && got == input.len()
+    let written = answer(sheet, choice, input, got, out);
+    if written && !files::complete(STDIN_FILENO, got, input.len()) {
+        os::fail(b"recover: standard input, the words after this point are not answered");
+    }
+    decide::goes_on(written, got, input.len())
 }
 
-// Answers runs until one is cut short. It counts down, from a number that no run uses up, since a proved loop has to end and
-// nothing says that the input does.
-fn turns(sheet: &[u8], choice: &[u8], input: &mut [u8], out: &mut [u8])
+// Answers runs until one is the last. They are counted, since a proved loop has to end and nothing says that the input does;
+// no run of the program counts so many.
+fn turns(sheet: &[u8], choice: &[u8], input: &mut [u8], out: &mut [u8]) -> Progress
+    requires { ⌜ Ready (now sheet) (now choice) (length (now input)) (length (now out)) ⌝ }
+    ensures { λ r. ⌜ Ends (r .made) (r .more) ⌝ }
+{
+    let mut made = 0u64;
+    let mut more = true;
+    while more && made < u64::MAX {
+        more = turn(sheet, choice, input, out);
+        made += 1;
+    }
+    Progress { made, more }
+}
+
+// Answers all runs.
+fn run(sheet: &[u8], choice: &[u8], input: &mut [u8], out: &mut [u8])
     requires { ⌜ Ready (now sheet) (now choice) (length (now input)) (length (now out)) ⌝ }
 {
-    let mut left = u64::MAX;
-    while left > 0 && turn(sheet, choice, input, out) {
-        left -= 1;
+    let t = turns(sheet, choice, input, out);
+    if t.more {
+        say(b"recover: too many words\n");
     }
 }
 
-// Answers the words on standard input; where the sheet or the choice has a wrong length, writes one record and reads none.
+// Says why no word is read, and writes the one record that there is without a word.
+fn refuse(why: &[u8], sheet: &[u8], choice: &[u8], input: &[u8], out: &mut [u8])
+    requires { ⌜ (length (records (now sheet) (now choice) []) ≡ 1) × (answerBytes ≤ length (now out)) ⌝ }
+{
+    say(why);
+    answer(sheet, choice, input, 0, out);
+}
+
+// Answers the words on standard input; where the sheet or the choice has a wrong length, reads none.
 fn serve(sheet: &[u8], choice: &[u8], input: &mut [u8], out: &mut [u8])
     requires { ⌜ (length (now input) ≡ runWords * 2 ^ largestN) × (length (now out) ≡ runWords * answerBytes) ⌝ }
 {
     let n = stream::size(sheet);
     if limits::LARGEST_N < n {
-        answer(sheet, choice, &input[0..0], out);
+        refuse(
+            b"recover: sheet.bin is not 68 N bytes long for an N of 1, 2, 4, .. 512; no word was read\n",
+            sheet,
+            choice,
+            input,
+            out,
+        );
     } else if choice.len() != 2 {
-        answer(sheet, choice, &input[0..0], out);
+        refuse(
+            b"recover: choice.bin is not two bytes long; no word was read\n",
+            sheet,
+            choice,
+            input,
+            out,
+        );
     } else {
-        turns(sheet, choice, &mut input[0..RUN << n], out);
+        run(sheet, choice, &mut input[0..RUN << n], out);
     }
 }
 
@@ -108,8 +147,8 @@ fn serve(sheet: &[u8], choice: &[u8], input: &mut [u8], out: &mut [u8])
 fn main() {
     let mut sheet = [0u8; SHEET];
     let mut choice = [0u8; CHOICE];
-    let s = load(b"sheet.bin", &mut sheet);
-    let c = load(b"choice.bin", &mut choice);
+    let s = files::load_sheet(&mut sheet);
+    let c = files::load_choice(&mut choice);
     let mut input = [0u8; INPUT];
     let mut out = [0u8; OUTPUT];
     serve(&sheet[0..s], &choice[0..c], &mut input, &mut out);

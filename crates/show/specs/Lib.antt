@@ -1,2 +1,7 @@
--- Digits: a strip as digits.
-pub mod Digits
+-- What a person reads of a record, in the order to read it.
+--     Text     texts and numbers as bytes; what it is to write them to a buffer
+--     Line     the line of a record
+--     Turns    what a turn writes, whether another follows, and how turns end
+pub mod Text
+pub mod Line
+pub mod Turns

@@ -1,16 +1,20 @@
 -- What follows from the promise of `answer`: of any answer a, and bytes x of the output after the call.
 --     stream-determined               any two results that the promise allows are equal
---     short-untouched, room-done      16 exactly where the output is too short, and then nothing is touched
+--     short-untouched, room-done, room-written     16 exactly where the output is too short, and then nothing is touched; else the records are
+--                                     written, and later bytes stay
 --     record-count                    as many records as input bytes divided by N, rounded up
 --     record-at                       record k, at its byte, is the answer to word k
 --     alone                           record k depends on word k alone
 --     cut                             an input cut at a multiple of N: the parts, answered one after the other, give the same bytes
-use mathlib.Core.Path.{_≡_, sym, ap, ap₂, _∙_}
-use Prim.Native.Nat.{ℕ, _+_, _-_, _*_, _/_, _^_, _≤_, _<_}
+--     cut-records, cut-bytes          the records of any number of parts, all but the last of whole words, are those of the whole input
+--     cut-all                         and so are the bytes that a call for each part leaves: what `recover` writes, by runs of whole words and then
+--                                     the rest, are the bytes of one call on the whole input
+use mathlib.Core.Path.{_≡_, refl, sym, ap, ap₂, _∙_}
+use Prim.Native.Nat.{ℕ, _+_, _-_, _*_, _/_, _%_, _^_, _≤_, _<_}
 use native.Mathlib.Omega.{arith}
-use native.Mathlib.Nat.{mul-add-div-right, div-eq-of-lt, add-zero, add-mul}
+use native.Mathlib.Nat.{mul-add-div-right, div-eq-of-lt, add-zero, add-mul, div-add-mod'}
 use mathlib.Core.Bool.{Bool, true, false, true≢false}
-use mathlib.Core.List.{List, [], _++_, flatten}
+use mathlib.Core.List.{List, [], _∷_, _++_, map, flatten, append-assoc}
 use lib.ListN.{length, take, drop, getD, length-append, length-drop}
 use lib.Dec.{ltb}
 use borrow.Author.Tests.{lt-ltb, le-ltb}
@@ -141,3 +145,73 @@ short-untouched s ch input out x a p l =
 pub room-done : (s ch input out x : List ℕ) (a : Answer) → leaving x a ≡ streaming s ch input out → length (records s ch input) * answerBytes ≤ length out → a ≡ Done
 unfolding streaming
 room-done s ch input out x a p l = ap (λ (t : Reply). t .answer) p ∙ rw (le-ltb (length out) (length (records s ch input) * answerBytes) l)
+
+-- the bytes of the records, and later bytes as found
+pub room-written : (s ch input out x : List ℕ) (a : Answer) → leaving x a ≡ streaming s ch input out → length (records s ch input) * answerBytes ≤ length out
+    → x ≡ flatten (records s ch input) ++ drop (length (flatten (records s ch input))) out
+unfolding streaming
+room-written s ch input out x a p l = ap (λ (t : Reply). t .bytes) p ∙ rw (le-ltb (length out) (length (records s ch input) * answerBytes) l)
+
+-- ---- any number of parts
+
+-- each part is a whole number of words of N bytes
+abbrev pub WholeWords : ℕ → List (List ℕ) → Type 0
+WholeWords N [] = Unit {0}
+WholeWords N (a ∷ parts) = (length a % N ≡ 0) × WholeWords N parts
+
+-- a call of `answer` that had room for the records: what it was handed, its answer, and its output as found and after the call
+pub record Call (s ch : List ℕ) : Type 0 where
+  pub input : List ℕ
+  pub found : List ℕ
+  pub after : List ℕ
+  pub answer : Answer
+  pub roomy : length (records s ch input) * answerBytes ≤ length found
+  pub promise : leaving after answer ≡ streaming s ch input found
+
+-- the bytes of the records that it left
+abbrev pub left : {s ch : List ℕ} → Call s ch → List ℕ
+left {s} {ch} c = take (length (records s ch (c .input)) * answerBytes) (c .after)
+
+-- lists of lists made flat at once, or one by one
+flatten-each : (f : List ℕ → List (List ℕ)) (l : List (List ℕ)) → flatten (flatten (map f l)) ≡ flatten (map (λ (a : List ℕ). flatten (f a)) l)
+unfolding flatten
+flatten-each f [] = refl
+flatten-each f (a ∷ l) = flatten-append (f a) (flatten (map f l)) ∙ ap (λ (t : List ℕ). flatten (f a) ++ t) (flatten-each f l)
+
+module _ (s ch : List ℕ) (h : sizeOf s ≤ largestN) (two : length ch ≡ 2) where
+  -- the records of the parts, one after the other
+  pub cut-records : (parts : List (List ℕ)) (last : List ℕ) → WholeWords (2 ^ sizeOf s) parts
+      → records s ch (flatten parts ++ last) ≡ flatten (map (records s ch) parts) ++ records s ch last
+  unfolding flatten
+  cut-records [] last w = refl
+  cut-records (a ∷ parts) last w =
+      let N : ℕ = 2 ^ sizeOf s in
+      let m : length a ≡ length a / N * N = omega (arith, div-add-mod' (length a) N, w .0) in
+      ap (records s ch) (append-assoc a (flatten parts) last) ∙ records-cut s ch h two a (flatten parts ++ last) (length a / N) m
+      ∙ ap (λ (t : List (List ℕ)). records s ch a ++ t) (cut-records parts last (w .1)) ∙ sym (append-assoc (records s ch a) _ _)
+
+  -- their bytes
+  pub cut-bytes : (parts : List (List ℕ)) (last : List ℕ) → WholeWords (2 ^ sizeOf s) parts
+      → flatten (records s ch (flatten parts ++ last)) ≡ flatten (map (λ (a : List ℕ). flatten (records s ch a)) parts) ++ flatten (records s ch last)
+  cut-bytes parts last w =
+      ap flatten (cut-records parts last w) ∙ flatten-append (flatten (map (records s ch) parts)) (records s ch last)
+      ∙ ap (λ (t : List ℕ). t ++ flatten (records s ch last)) (flatten-each (records s ch) parts)
+
+  -- what a call leaves
+  left-bytes : (c : Call s ch) → left c ≡ flatten (records s ch (c .input))
+  left-bytes c =
+      let R : List (List ℕ) = records s ch (c .input) in
+      ap (take (length R * answerBytes)) (room-written s ch (c .input) (c .found) (c .after) (c .answer) (c .promise) (c .roomy)) ∙ take-at (flatten R) _ _ (length-flatten answerBytes R (records-wide s ch (c .input)))
+
+  all-left : (calls : List (Call s ch)) → flatten (map (λ (a : List ℕ). flatten (records s ch a)) (map (λ (c : Call s ch). c .input) calls)) ≡ flatten (map left calls)
+  unfolding flatten
+  all-left [] = refl
+  all-left (c ∷ calls) = ap₂ {C = List ℕ} _++_ (sym (left-bytes c)) (all-left calls)
+
+  -- runs of whole words and then the rest, a call for each: what the calls leave, one after the other, is what one call on the whole input leaves
+  pub cut-all : (parts : List (Call s ch)) (last whole : Call s ch) → WholeWords (2 ^ sizeOf s) (map (λ (c : Call s ch). c .input) parts)
+      → whole .input ≡ flatten (map (λ (c : Call s ch). c .input) parts) ++ last .input
+      → left whole ≡ flatten (map left parts) ++ left last
+  cut-all parts last whole w e =
+      left-bytes whole ∙ ap (λ (i : List ℕ). flatten (records s ch i)) e ∙ cut-bytes (map (λ (c : Call s ch). c .input) parts) (last .input) w
+      ∙ ap₂ {C = List ℕ} _++_ (all-left parts) (sym (left-bytes last))

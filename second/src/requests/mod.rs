@@ -12,6 +12,7 @@ mod stream;
 mod unknowns;
 
 use crate::protocol::Request;
+pub use parts::Code;
 
 /// The ops that go into the vectors, in their order.
 pub const OPS: [u16; 6] = [0, 1, 2, 3, 4, 5];

@@ -1,19 +1,10 @@
-use Rattle.meaning.specs.Limits.{headBytes, stripWidth}
-use Rattle.meaning.specs.Stream.{answerBytes}
+use Rattle.recover.proofs.Runs.{filled-fits}
 use borrow.Author.Needs.{needs}
-use native.Mathlib.Omega.{arith}
 use Rattle.recover.proofs.answer.Statement.{statement}
 use Rattle.recover.proofs.answer.Tie as tie
 
-records-requires : tie.Need-records-requires
-records-requires c κs = search needs
-
-answer-requires : tie.Need-answer-requires
-answer-requires c κs = search needs
-
-mul-write : tie.Need-mul-write
-unfolding answerBytes headBytes stripWidth
-mul-write c = omega (arith, c .before .before .before .before .before .before .before .before .before .pre, c .before .before .before .before .records .ensures)
+fill-requires : tie.Need-fill-requires
+fill-requires c κs = search needs
 
 sub-write : tie.Need-sub-write
 sub-write c = search needs
@@ -22,12 +13,7 @@ part-write-start : tie.Need-part-write-start
 part-write-start c = search needs
 
 part-write-end : tie.Need-part-write-end
-unfolding answerBytes headBytes stripWidth
-part-write-end c =
-    let at-out = c .before .before in
-    let at-records = at-out .before .before .before in
-    let start = at-records .before .before .before .before .before in
-    omega (arith, start .pre, at-records .records .ensures, at-out .out .given)
+part-write-end c = filled-fits _ _ _ _ _ _ (c .before .before .before .fill .ensures)
 
 write-requires : tie.Need-write-requires
 write-requires c κs = search needs
@@ -42,9 +28,7 @@ pub answer-spec : {M : Type 1} → statement M
 answer-spec =
     tie.close
     (tie.spec
-    records-requires
-    answer-requires
-    mul-write
+    fill-requires
     sub-write
     part-write-start
     part-write-end

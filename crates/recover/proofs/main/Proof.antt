@@ -1,27 +1,23 @@
-use borrow.Author.Needs.{needs}
-use Rattle.meaning.specs.Limits.{largestN, headBytes, stripWidth}
+use Rattle.meaning.specs.Limits.{largestN, maskBytes, recordBytes, headBytes, stripWidth}
 use Rattle.meaning.specs.Stream.{answerBytes}
-use Rattle.recover.specs.Runs.{runWords}
+use Rattle.recover.specs.Runs.{runWords, choiceBytes}
+use borrow.Author.Needs.{needs}
 use Rattle.recover.proofs.main.Statement.{statement}
 use Rattle.recover.proofs.main.Tie as tie
 
-slice-aggregate-load : tie.Need-slice-aggregate-load
-slice-aggregate-load c = search needs
+slice-aggregate-load-sheet : tie.Need-slice-aggregate-load-sheet
+slice-aggregate-load-sheet c = search needs
 
-slice-aggregate-load-2 : tie.Need-slice-aggregate-load-2
-slice-aggregate-load-2 c = search needs
+load-sheet-requires : tie.Need-load-sheet-requires
+unfolding recordBytes maskBytes largestN
+load-sheet-requires c κs = search needs
 
-load-requires : tie.Need-load-requires
-load-requires c κs = search needs
+slice-aggregate-load-choice : tie.Need-slice-aggregate-load-choice
+slice-aggregate-load-choice c = search needs
 
-slice-aggregate-load-3 : tie.Need-slice-aggregate-load-3
-slice-aggregate-load-3 c = search needs
-
-slice-aggregate-load-4 : tie.Need-slice-aggregate-load-4
-slice-aggregate-load-4 c = search needs
-
-load-requires-2 : tie.Need-load-requires-2
-load-requires-2 c κs = search needs
+load-choice-requires : tie.Need-load-choice-requires
+unfolding choiceBytes
+load-choice-requires c κs = search needs
 
 sub-serve : tie.Need-sub-serve
 sub-serve c = search needs
@@ -58,12 +54,10 @@ pub main-spec : {M : Type 1} → statement M
 main-spec =
     tie.close
     (tie.spec
-    slice-aggregate-load
-    slice-aggregate-load-2
-    load-requires
-    slice-aggregate-load-3
-    slice-aggregate-load-4
-    load-requires-2
+    slice-aggregate-load-sheet
+    load-sheet-requires
+    slice-aggregate-load-choice
+    load-choice-requires
     sub-serve
     part-serve-start
     part-serve-end

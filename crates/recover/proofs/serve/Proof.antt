@@ -1,7 +1,10 @@
+use mathlib.Core.Path.{sym}
+use mathlib.Core.List.{[]}
 use lib.ListN.{length-take}
+use Rattle.stream.proofs.Counting.{one-shape, one-choice}
 use Rattle.meaning.specs.Limits.{largestN}
 use Rattle.recover.specs.Runs.{runWords}
-use Rattle.recover.proofs.Runs.{shape-room, choice-room, ready, ready-same, run-is}
+use Rattle.recover.proofs.Runs.{one-room, ready, ready-same, run-is}
 use borrow.Author.Needs.{needs}
 use native.Mathlib.Omega.{arith}
 use Rattle.recover.proofs.serve.Statement.{statement}
@@ -10,58 +13,46 @@ use Rattle.recover.proofs.serve.Tie as tie
 size-requires : tie.Need-size-requires
 size-requires c κs = search needs
 
-sub-answer : tie.Need-sub-answer
-sub-answer c = search needs
+slice-aggregate-refuse : tie.Need-slice-aggregate-refuse
+slice-aggregate-refuse c = search needs
 
-part-answer-start : tie.Need-part-answer-start
-part-answer-start c = search needs
-
-part-answer-end : tie.Need-part-answer-end
-part-answer-end c = search needs
-
-answer-requires : tie.Need-answer-requires
+refuse-requires : tie.Need-refuse-requires
 unfolding largestN
-answer-requires c κs =
+refuse-requires c κs =
     let then1 = c .before .before .before in
     let at-size = then1 .before in
     let start = at-size .before .before .before .before .before in
-    shape-room (start .args .sheet .now) (start .args .choice .now) _ _ (at-size .size .ensures) _ (start .pre .1) (then1 .if1 .taken)
+    (sym (one-shape (start .args .sheet .now) (start .args .choice .now) [] _ (at-size .size .ensures) (then1 .if1 .taken)), one-room _ (start .pre .1))
 
-sub-answer-2 : tie.Need-sub-answer-2
-sub-answer-2 c = search needs
+slice-aggregate-refuse-2 : tie.Need-slice-aggregate-refuse-2
+slice-aggregate-refuse-2 c = search needs
 
-part-answer-start-2 : tie.Need-part-answer-start-2
-part-answer-start-2 c = search needs
-
-part-answer-end-2 : tie.Need-part-answer-end-2
-part-answer-end-2 c = search needs
-
-answer-requires-2 : tie.Need-answer-requires-2
+refuse-requires-2 : tie.Need-refuse-requires-2
 unfolding largestN
-answer-requires-2 c κs =
+refuse-requires-2 c κs =
     let then2 = c .before .before .before in
     let else1 = then2 .before in
     let at-size = else1 .before in
     let start = at-size .before .before .before .before .before in
-    choice-room (start .args .sheet .now) (start .args .choice .now) _ _ (at-size .size .ensures) _ (start .pre .1) (else1 .if1 .left) (then2 .if2 .taken)
+    (sym (one-choice (start .args .sheet .now) (start .args .choice .now) [] _ (at-size .size .ensures) (else1 .if1 .left) (then2 .if2 .taken)), one-room _ (start .pre .1))
 
-shl-turns : tie.Need-shl-turns
+shl-run : tie.Need-shl-run
 unfolding largestN
-shl-turns c = omega (arith, c .before .if1 .left)
+shl-run c = omega (arith, c .before .if1 .left)
 
-sub-turns : tie.Need-sub-turns
-sub-turns c = search needs
+sub-run : tie.Need-sub-run
+sub-run c = search needs
 
-part-turns-start : tie.Need-part-turns-start
-part-turns-start c = search needs
+part-run-start : tie.Need-part-run-start
+part-run-start c = search needs
 
-part-turns-end : tie.Need-part-turns-end
+part-run-end : tie.Need-part-run-end
 unfolding largestN runWords
-part-turns-end c = let (e, l) = run-is _ (c .before .if1 .left) in omega (arith, e, l, c .before .before .before .before .before .before .before .pre .0)
+part-run-end c = let (e, l) = run-is _ (c .before .if1 .left) in omega (arith, e, l, c .before .before .before .before .before .before .before .pre .0)
 
-turns-requires : tie.Need-turns-requires
+run-requires : tie.Need-run-requires
 unfolding largestN runWords
-turns-requires c κs =
+run-requires c κs =
     let else2 = c .before .before in
     let else1 = else2 .before in
     let at-size = else1 .before in
@@ -101,19 +92,15 @@ serve-spec =
     tie.close
     (tie.spec
     size-requires
-    sub-answer
-    part-answer-start
-    part-answer-end
-    answer-requires
-    sub-answer-2
-    part-answer-start-2
-    part-answer-end-2
-    answer-requires-2
-    shl-turns
-    sub-turns
-    part-turns-start
-    part-turns-end
-    turns-requires
+    slice-aggregate-refuse
+    refuse-requires
+    slice-aggregate-refuse-2
+    refuse-requires-2
+    shl-run
+    sub-run
+    part-run-start
+    part-run-end
+    run-requires
     same-length
     same-length-2
     returns

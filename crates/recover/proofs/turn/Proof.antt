@@ -8,20 +8,23 @@ use Rattle.recover.proofs.turn.Tie as tie
 read-full-requires : tie.Need-read-full-requires
 read-full-requires c κs = search needs
 
-sub-answer : tie.Need-sub-answer
-sub-answer c = search needs
-
-part-answer-start : tie.Need-part-answer-start
-part-answer-start c = search needs
-
-part-answer-end : tie.Need-part-answer-end
-part-answer-end c = search needs
-
 answer-requires : tie.Need-answer-requires
 answer-requires c κs =
-    let at-input = c .before .before .before .before in
-    let start = at-input .before .before .before .before .before .before .before in
-    run-room (start .args .sheet .now) (start .args .choice .now) _ _ (start .pre) _ (simp length-take (omega (arith, at-input .input .given)))
+    let at-read = c .before .before .before .before in
+    let start = at-read .before .before .before .before .before .before in
+    (at-read .read-full .ensures .0, run-room (start .args .sheet .now) (start .args .choice .now) _ _ (start .pre) _ (simp length-take (omega (arith, at-read .read-full .ensures .0, at-read .read-full .kept))))
+
+complete-requires : tie.Need-complete-requires
+complete-requires c κs = search needs
+
+slice-aggregate-fail : tie.Need-slice-aggregate-fail
+slice-aggregate-fail c = search needs
+
+fail-requires : tie.Need-fail-requires
+fail-requires c κs = search needs
+
+goes-on-requires : tie.Need-goes-on-requires
+goes-on-requires c κs = search needs
 
 same-length : tie.Need-same-length
 same-length c = search needs
@@ -32,27 +35,16 @@ same-length-2 c = search needs
 returns : tie.Need-returns
 returns c = search needs
 
-same-length-3 : tie.Need-same-length-3
-same-length-3 c = search needs
-
-same-length-4 : tie.Need-same-length-4
-same-length-4 c = search needs
-
-returns-2 : tie.Need-returns-2
-returns-2 c = search needs
-
 pub turn-spec : {M : Type 1} → statement M
 turn-spec =
     tie.close
     (tie.spec
     read-full-requires
-    sub-answer
-    part-answer-start
-    part-answer-end
     answer-requires
+    complete-requires
+    slice-aggregate-fail
+    fail-requires
+    goes-on-requires
     same-length
     same-length-2
-    returns
-    same-length-3
-    same-length-4
-    returns-2)
+    returns)

@@ -1,33 +1,42 @@
-use mathlib.Core.Path.{_≡_, refl}
+use mathlib.Core.Path.{_≡_, refl, sym, _∙_}
+use Prim.Native.Nat.{_≤_, _-_}
+use mathlib.Core.Bool.{false, true≢false}
 use lib.ListN.{length}
+use Rattle.recover.specs.Runs.{mostTurns}
 use Rattle.recover.proofs.Runs.{ready-same}
 use borrow.Author.Needs.{needs}
+use borrow.Author.Tests.{ltb-true, ltb-false}
+use native.Mathlib.Omega.{arith}
 use Rattle.recover.proofs.turns.Statement.{statement}
 use Rattle.recover.proofs.turns.Tie as tie
 
 abbrev Inv-loop : tie.InvT-loop
-Inv-loop sheet choice input₀ out₀ left₀ input out left = (length input ≡ length input₀) × (length out ≡ length out₀)
+Inv-loop sheet choice input₀ out₀ made₀ more₀ input out made more = (length input ≡ length input₀) × (length out ≡ length out₀) × (made ≤ mostTurns) × (more ≡ false → 1 ≤ made)
 
 abbrev μ-loop : tie.MeasureT-loop
-μ-loop sheet choice input₀ out₀ left₀ input out left = left
+μ-loop sheet choice input₀ out₀ made₀ more₀ input out made more = mostTurns - made
 
 loop-holds : tie.Need-loop-holds Inv-loop μ-loop
-loop-holds c = (refl, refl)
+unfolding mostTurns
+loop-holds c = (refl, refl, omega arith, λ e. absurd (true≢false e))
 
 turn-requires : tie.Need-turn-requires Inv-loop μ-loop
 turn-requires c κs =
-    let at-loop = c .before .before .before in
+    let at-loop = c .before .before .before .before in
     let start = at-loop .before .before .before .before .before in
     ready-same _ _ _ _ _ _ (at-loop .loop .inv .0) (at-loop .loop .inv .1) (start .pre)
 
-sub-left : tie.Need-sub-left Inv-loop μ-loop
-sub-left c = search needs
+add-made : tie.Need-add-made Inv-loop μ-loop
+unfolding mostTurns
+add-made c = omega (arith, ltb-true)
 
 loop-less : tie.Need-loop-less Inv-loop μ-loop
-loop-less c = search needs
+unfolding mostTurns
+loop-less c = omega (arith, ltb-true)
 
 loop-again : tie.Need-loop-again Inv-loop μ-loop
-loop-again c = search needs
+unfolding mostTurns
+loop-again c = (search needs, search needs, omega (arith, ltb-true), λ e. omega arith)
 
 same-length : tie.Need-same-length Inv-loop μ-loop
 same-length c = search needs
@@ -36,7 +45,8 @@ same-length-2 : tie.Need-same-length-2 Inv-loop μ-loop
 same-length-2 c = search needs
 
 returns : tie.Need-returns Inv-loop μ-loop
-returns c = search needs
+unfolding mostTurns
+returns c = record { some = omega (arith, ltb-false); most = λ e. omega (arith, ltb-false) }
 
 same-length-3 : tie.Need-same-length-3 Inv-loop μ-loop
 same-length-3 c = search needs
@@ -45,7 +55,8 @@ same-length-4 : tie.Need-same-length-4 Inv-loop μ-loop
 same-length-4 c = search needs
 
 returns-2 : tie.Need-returns-2 Inv-loop μ-loop
-returns-2 c = search needs
+returns-2 c =
+    record { some = c .before .loop .inv .3 (c .loop-test .left); most = λ e. absurd (true≢false (sym e ∙ c .loop-test .left)) }
 
 pub turns-spec : {M : Type 1} → statement M
 turns-spec =
@@ -55,7 +66,7 @@ turns-spec =
     μ-loop
     loop-holds
     turn-requires
-    sub-left
+    add-made
     loop-less
     loop-again
     same-length

@@ -1,155 +1,93 @@
+use mathlib.Core.Path.{sym, ap}
+use Prim.Native.Nat.{ℕ}
+use Rattle.show.proofs.Writing.{spelt}
+use Rattle.show.proofs.Choosing.{none}
+use Rattle.show.specs.Line.{verdicts, plainOf, saidOf, longestLine}
 use borrow.Author.Needs.{needs}
-use Rattle.meaning.specs.Limits.{headBytes, stripWidth}
-use Rattle.meaning.specs.Stream.{answerBytes}
+use native.Mathlib.Omega.{arith}
 use Rattle.show.proofs.line.said.Statement.{statement}
 use Rattle.show.proofs.line.said.Tie as tie
 
-two-requires : tie.Need-two-requires
-unfolding answerBytes headBytes stripWidth
-two-requires c κs = search needs
-
-two-requires-2 : tie.Need-two-requires-2
-unfolding answerBytes headBytes stripWidth
-two-requires-2 c κs = search needs
-
-two-requires-3 : tie.Need-two-requires-3
-unfolding answerBytes headBytes stripWidth
-two-requires-3 c κs = search needs
-
-two-requires-4 : tie.Need-two-requires-4
-unfolding answerBytes headBytes stripWidth
-two-requires-4 c κs = search needs
-
-slice-aggregate-say : tie.Need-slice-aggregate-say
-unfolding answerBytes headBytes stripWidth
-slice-aggregate-say c = search needs
-
-say-requires : tie.Need-say-requires
-unfolding answerBytes headBytes stripWidth
-say-requires c κs = search needs
+slice-aggregate-counts : tie.Need-slice-aggregate-counts
+slice-aggregate-counts c = search needs
 
 counts-requires : tie.Need-counts-requires
-unfolding answerBytes headBytes stripWidth
-counts-requires c κs = search needs
+unfolding longestLine plainOf
+counts-requires c κs = omega (arith, c .before .before .before .before .pre)
 
-slice-aggregate-say-2 : tie.Need-slice-aggregate-say-2
-unfolding answerBytes headBytes stripWidth
-slice-aggregate-say-2 c = search needs
-
-say-requires-2 : tie.Need-say-requires-2
-unfolding answerBytes headBytes stripWidth
-say-requires-2 c κs = search needs
-
-sub-strip : tie.Need-sub-strip
-unfolding answerBytes headBytes stripWidth
-sub-strip c = search needs
-
-part-strip-start : tie.Need-part-strip-start
-unfolding answerBytes headBytes stripWidth
-part-strip-start c = search needs
-
-part-strip-end : tie.Need-part-strip-end
-unfolding answerBytes headBytes stripWidth
-part-strip-end c = search needs
-
-strip-requires : tie.Need-strip-requires
-unfolding answerBytes headBytes stripWidth
-strip-requires c κs = search needs
-
-slice-aggregate-say-3 : tie.Need-slice-aggregate-say-3
-unfolding answerBytes headBytes stripWidth
-slice-aggregate-say-3 c = search needs
-
-say-requires-3 : tie.Need-say-requires-3
-unfolding answerBytes headBytes stripWidth
-say-requires-3 c κs = search needs
+slice-aggregate-counts-2 : tie.Need-slice-aggregate-counts-2
+slice-aggregate-counts-2 c = search needs
 
 counts-requires-2 : tie.Need-counts-requires-2
-unfolding answerBytes headBytes stripWidth
-counts-requires-2 c κs = search needs
+unfolding longestLine plainOf
+counts-requires-2 c κs = omega (arith, c .before .before .before .before .pre)
 
-strips-requires : tie.Need-strips-requires
-unfolding answerBytes headBytes stripWidth
-strips-requires c κs = search needs
-
-slice-aggregate-say-4 : tie.Need-slice-aggregate-say-4
-unfolding answerBytes headBytes stripWidth
-slice-aggregate-say-4 c = search needs
-
-say-requires-4 : tie.Need-say-requires-4
-unfolding answerBytes headBytes stripWidth
-say-requires-4 c κs = search needs
+slice-aggregate-counts-3 : tie.Need-slice-aggregate-counts-3
+slice-aggregate-counts-3 c = search needs
 
 counts-requires-3 : tie.Need-counts-requires-3
-unfolding answerBytes headBytes stripWidth
-counts-requires-3 c κs = search needs
-
-two-requires-5 : tie.Need-two-requires-5
-unfolding answerBytes headBytes stripWidth
-two-requires-5 c κs = search needs
+unfolding longestLine plainOf
+counts-requires-3 c κs = omega (arith, c .before .before .before .before .pre)
 
 refusal-requires : tie.Need-refusal-requires
-unfolding answerBytes headBytes stripWidth
 refusal-requires c κs = search needs
 
+same-length : tie.Need-same-length
+same-length c = search needs
+
 returns : tie.Need-returns
-unfolding answerBytes headBytes stripWidth
-returns c = search needs
+unfolding saidOf
+returns c =
+    let w = c .before .before .counts .ensures in
+    let a = c .before .before .before .before .before .before .before .args in
+    (spelt (w .0) (ap (λ (k : ℕ). saidOf k (a .place) (a .g) (a .m) (a .d)) (sym (c .before .before .before .before .before .match .keys1))), w .1)
+
+same-length-2 : tie.Need-same-length-2
+same-length-2 c = search needs
 
 returns-2 : tie.Need-returns-2
-unfolding answerBytes headBytes stripWidth
-returns-2 c = search needs
+unfolding saidOf
+returns-2 c =
+    let w = c .before .before .counts2 .ensures in
+    let a = c .before .before .before .before .before .before .before .args in
+    (spelt (w .0) (ap (λ (k : ℕ). saidOf k (a .place) (a .g) (a .m) (a .d)) (sym (c .before .before .before .before .before .match .keys2))), w .1)
+
+same-length-3 : tie.Need-same-length-3
+same-length-3 c = search needs
 
 returns-3 : tie.Need-returns-3
-unfolding answerBytes headBytes stripWidth
-returns-3 c = search needs
+unfolding saidOf
+returns-3 c =
+    let w = c .before .before .counts3 .ensures in
+    let a = c .before .before .before .before .before .before .before .args in
+    (spelt (w .0) (ap (λ (k : ℕ). saidOf k (a .place) (a .g) (a .m) (a .d)) (sym (c .before .before .before .before .before .match .keys3))), w .1)
+
+same-length-4 : tie.Need-same-length-4
+same-length-4 c = search needs
 
 returns-4 : tie.Need-returns-4
-unfolding answerBytes headBytes stripWidth
-returns-4 c = search needs
-
-returns-5 : tie.Need-returns-5
-unfolding answerBytes headBytes stripWidth
-returns-5 c = search needs
-
-returns-6 : tie.Need-returns-6
-unfolding answerBytes headBytes stripWidth
-returns-6 c = search needs
-
-returns-7 : tie.Need-returns-7
-unfolding answerBytes headBytes stripWidth
-returns-7 c = search needs
+unfolding saidOf
+returns-4 c =
+    let w = c .before .before .refusal .ensures in
+    let a = c .before .before .before .before .before .before .args in
+    (spelt (w .0) (none (a .code) (verdicts (a .g) (a .m) (a .d)) _ (c .before .before .before .before .match .rest)), w .1)
 
 pub said-spec : {M : Type 1} → statement M
 said-spec =
     tie.close
     (tie.spec
-    two-requires
-    two-requires-2
-    two-requires-3
-    two-requires-4
-    slice-aggregate-say
-    say-requires
+    slice-aggregate-counts
     counts-requires
-    slice-aggregate-say-2
-    say-requires-2
-    sub-strip
-    part-strip-start
-    part-strip-end
-    strip-requires
-    slice-aggregate-say-3
-    say-requires-3
+    slice-aggregate-counts-2
     counts-requires-2
-    strips-requires
-    slice-aggregate-say-4
-    say-requires-4
+    slice-aggregate-counts-3
     counts-requires-3
-    two-requires-5
     refusal-requires
+    same-length
     returns
+    same-length-2
     returns-2
+    same-length-3
     returns-3
-    returns-4
-    returns-5
-    returns-6
-    returns-7)
+    same-length-4
+    returns-4)

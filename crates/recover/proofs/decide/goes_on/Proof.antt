@@ -1,0 +1,12 @@
+use borrow.Author.Needs.{needs}
+use Rattle.recover.proofs.decide.goes_on.Statement.{statement}
+use Rattle.recover.proofs.decide.goes_on.Tie as tie
+
+returns : tie.Need-returns
+returns c = rw (c .if1 .taken)
+
+returns-2 : tie.Need-returns-2
+returns-2 c = search needs
+
+pub goes-on-spec : {M : Type 1} → statement M
+goes-on-spec = tie.close (tie.spec returns returns-2)

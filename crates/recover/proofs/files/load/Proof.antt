@@ -1,0 +1,53 @@
+use Rattle.recover.proofs.Decisions.{counted-least}
+use borrow.Author.Needs.{needs}
+use Rattle.recover.proofs.files.load.Statement.{statement}
+use Rattle.recover.proofs.files.load.Tie as tie
+
+open-read-requires : tie.Need-open-read-requires
+open-read-requires c κs = search needs
+
+opened-requires : tie.Need-opened-requires
+opened-requires c κs = search needs
+
+fail-requires : tie.Need-fail-requires
+fail-requires c κs = search needs
+
+returns : tie.Need-returns
+returns c = search needs
+
+read-full-requires : tie.Need-read-full-requires
+read-full-requires c κs = search needs
+
+complete-requires : tie.Need-complete-requires
+complete-requires c κs = search needs
+
+fail-requires-2 : tie.Need-fail-requires-2
+fail-requires-2 c κs = search needs
+
+close-requires : tie.Need-close-requires
+close-requires c κs = search needs
+
+counted-requires : tie.Need-counted-requires
+counted-requires c κs = search needs
+
+same-length : tie.Need-same-length
+same-length c = search needs
+
+returns-2 : tie.Need-returns-2
+returns-2 c = counted-least (c .before .before .before .complete .result) _ _ (c .counted .result) (c .counted .ensures) (c .before .before .before .before .before .before .read-full .ensures .0)
+
+pub load-spec : {M : Type 1} → statement M
+load-spec =
+    tie.close
+    (tie.spec
+    open-read-requires
+    opened-requires
+    fail-requires
+    returns
+    read-full-requires
+    complete-requires
+    fail-requires-2
+    close-requires
+    counted-requires
+    same-length
+    returns-2)
