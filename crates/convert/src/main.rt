@@ -17,12 +17,6 @@ fn say(s: &[u8]) {
     io::write_all(STDERR_FILENO, s);
 }
 
-// Whether standard input has been read to its end.
-fn ended() -> bool {
-    let mut more = [0u8; 1];
-    libc::read(STDIN_FILENO, &mut more) == 0
-}
-
 // Says that a record breaks a rule, and which.
 fn say_place(place: usize) {
     let mut text = [0u8; DIGITS];
@@ -66,10 +60,11 @@ fn turn(old: &[u8], out: &mut [u8]) {
 fn main() {
     let mut old = [0u8; SHEET];
     let mut out = [0u8; sheet_convert::LONGEST];
-    let got = io::read_full(STDIN_FILENO, &mut old);
-    if got < SHEET && !ended() {
+    let got = intake::read(STDIN_FILENO, &mut old);
+    if !intake::whole(got.n, SHEET, got.last) {
         say(b"convert: cannot read the sheet to its end\n");
         return;
     }
-    turn(&old[0..got], &mut out);
+    let n = got.n;
+    turn(&old[0..n], &mut out);
 }

@@ -1,5 +1,4 @@
--- Runs: the records of a run have room. Decisions: tests of signed numbers.
+-- Runs: the records of a run have room.
 -- Joined: what is written, run by run, are the records of the whole input.
 pub mod Runs
-pub mod Decisions
 pub mod Joined

@@ -9,9 +9,9 @@ ghost use mathlib.Core.List.{[]};
 ghost use lib.ListN.{length, take};
 ghost use Rattle.meaning.specs.Limits.{largestN};
 ghost use Rattle.meaning.specs.Stream.{answerBytes, records};
-ghost use Rattle.recover.specs.Runs.{runWords, Ready, Filled, Ends};
+ghost use Rattle.intake.specs.Turns.{Ends};
+ghost use Rattle.recover.specs.Runs.{runWords, Ready, Filled};
 
-mod decide;
 mod files;
 
 use libc::STDERR_FILENO;
@@ -76,12 +76,12 @@ fn answer(sheet: &[u8], choice: &[u8], input: &[u8], got: usize, out: &mut [u8])
 fn turn(sheet: &[u8], choice: &[u8], input: &mut [u8], out: &mut [u8]) -> bool
     requires { ⌜ Ready (now sheet) (now choice) (length (now input)) (length (now out)) ⌝ }
 {
-    let got = io::read_full(STDIN_FILENO, input);
-    let written = answer(sheet, choice, input, got, out);
-    if written && !files::complete(STDIN_FILENO, got, input.len()) {
+    let got = intake::read(STDIN_FILENO, input);
+    let written = answer(sheet, choice, input, got.n, out);
+    if written && !intake::whole(got.n, input.len(), got.last) {
         os::fail(b"recover: standard input, the words after this point are not answered");
     }
-    decide::goes_on(written, got, input.len())
+    intake::goes_on(written, got.n, input.len())
 }
 
 // Answers runs until one is the last. They are counted, since a proved loop has to end and nothing says that the input does;

@@ -1,7 +1,7 @@
 -- What a person reads of a record, in the order to read it.
 --     Text     texts and numbers as bytes; what it is to write them to a buffer
 --     Line     the line of a record
---     Turns    what a turn writes, whether another follows, and how turns end
+--     Turn     what a turn writes
 pub mod Text
 pub mod Line
-pub mod Turns
+pub mod Turn

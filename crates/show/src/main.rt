@@ -5,7 +5,8 @@ ghost use Prim.Native.Nat.{_≤_};
 ghost use lib.ListN.{length, take};
 ghost use Rattle.meaning.specs.Stream.{answerBytes};
 ghost use Rattle.show.specs.Line.{longestLine};
-ghost use Rattle.show.specs.Turns.{written, goesOn, AllMade};
+ghost use Rattle.intake.specs.Turns.{Ends};
+ghost use Rattle.show.specs.Turn.{written};
 
 mod line;
 mod text;
@@ -48,26 +49,19 @@ fn write(s: &[u8]) -> bool {
     done
 }
 
-// Whether another turn follows one that got so many bytes of `len`.
-fn goes_on(written: bool, got: usize, len: usize) -> bool
-    ensures { λ r. ⌜ r ≡ goesOn written got len ⌝ }
-{
-    written && got == len
-}
-
 // Reads a record and writes its line; answers whether to go on.
 fn turn(answer: &mut [u8], out: &mut [u8]) -> bool
     requires { ⌜ (length (now answer) ≡ answerBytes) × (longestLine ≤ length (now out)) ⌝ }
 {
-    let got = io::read_full(STDIN_FILENO, answer);
-    let k = shown(answer, got, out);
-    goes_on(write(&out[0..k]), got, limits::ANSWER)
+    let got = intake::read(STDIN_FILENO, answer);
+    let k = shown(answer, got.n, out);
+    intake::goes_on(write(&out[0..k]), got.n, limits::ANSWER)
 }
 
 // Turns until one answers that there is no more, or until no more can be counted.
 fn turns(answer: &mut [u8], out: &mut [u8]) -> Run
     requires { ⌜ (length (now answer) ≡ answerBytes) × (longestLine ≤ length (now out)) ⌝ }
-    ensures { λ r. ⌜ AllMade (r .made) (r .more) ⌝ }
+    ensures { λ r. ⌜ Ends (r .made) (r .more) ⌝ }
 {
     let mut made = 0u64;
     let mut more = true;

@@ -5,17 +5,17 @@ use native.Mathlib.Omega.{arith}
 use Rattle.recover.proofs.turn.Statement.{statement}
 use Rattle.recover.proofs.turn.Tie as tie
 
-read-full-requires : tie.Need-read-full-requires
-read-full-requires c κs = search needs
+read-requires : tie.Need-read-requires
+read-requires c κs = search needs
 
 answer-requires : tie.Need-answer-requires
 answer-requires c κs =
     let at-read = c .before .before .before .before in
     let start = at-read .before .before .before .before .before .before in
-    (at-read .read-full .ensures .0, run-room (start .args .sheet .now) (start .args .choice .now) _ _ (start .pre) _ (simp length-take (omega (arith, at-read .read-full .ensures .0, at-read .read-full .kept))))
+    (at-read .read .ensures .0, run-room (start .args .sheet .now) (start .args .choice .now) _ _ (start .pre) _ (simp length-take (omega (arith, at-read .read .ensures .0, at-read .read .kept))))
 
-complete-requires : tie.Need-complete-requires
-complete-requires c κs = search needs
+whole-requires : tie.Need-whole-requires
+whole-requires c κs = search needs
 
 slice-aggregate-fail : tie.Need-slice-aggregate-fail
 slice-aggregate-fail c = search needs
@@ -39,9 +39,9 @@ pub turn-spec : {M : Type 1} → statement M
 turn-spec =
     tie.close
     (tie.spec
-    read-full-requires
+    read-requires
     answer-requires
-    complete-requires
+    whole-requires
     slice-aggregate-fail
     fail-requires
     goes-on-requires

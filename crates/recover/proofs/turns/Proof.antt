@@ -2,7 +2,7 @@ use mathlib.Core.Path.{_≡_, refl, sym, _∙_}
 use Prim.Native.Nat.{_≤_, _-_}
 use mathlib.Core.Bool.{false, true≢false}
 use lib.ListN.{length}
-use Rattle.recover.specs.Runs.{mostTurns}
+use Rattle.intake.specs.Turns.{mostTurns}
 use Rattle.recover.proofs.Runs.{ready-same}
 use borrow.Author.Needs.{needs}
 use borrow.Author.Tests.{ltb-true, ltb-false}

@@ -1,7 +1,7 @@
 use borrow.Author.Tests.{eq-eqb, ne-eqb}
 use Rattle.meaning.specs.Limits.{headBytes, stripWidth}
 use Rattle.meaning.specs.Stream.{answerBytes}
-use Rattle.show.specs.Turns.{written}
+use Rattle.show.specs.Turn.{written}
 use borrow.Author.Needs.{needs}
 use Rattle.show.proofs.shown.Statement.{statement}
 use Rattle.show.proofs.shown.Tie as tie

@@ -1,4 +1,4 @@
-use Rattle.recover.proofs.Decisions.{counted-least}
+use Rattle.intake.proofs.Decisions.{counted-least}
 use borrow.Author.Needs.{needs}
 use Rattle.recover.proofs.files.load.Statement.{statement}
 use Rattle.recover.proofs.files.load.Tie as tie
@@ -15,11 +15,11 @@ fail-requires c κs = search needs
 returns : tie.Need-returns
 returns c = search needs
 
-read-full-requires : tie.Need-read-full-requires
-read-full-requires c κs = search needs
+read-requires : tie.Need-read-requires
+read-requires c κs = search needs
 
-complete-requires : tie.Need-complete-requires
-complete-requires c κs = search needs
+whole-requires : tie.Need-whole-requires
+whole-requires c κs = search needs
 
 fail-requires-2 : tie.Need-fail-requires-2
 fail-requires-2 c κs = search needs
@@ -34,7 +34,7 @@ same-length : tie.Need-same-length
 same-length c = search needs
 
 returns-2 : tie.Need-returns-2
-returns-2 c = counted-least (c .before .before .before .complete .result) _ _ (c .counted .result) (c .counted .ensures) (c .before .before .before .before .before .before .read-full .ensures .0)
+returns-2 c = counted-least (c .before .before .before .whole .result) _ _ (c .counted .result) (c .counted .ensures) (c .before .before .before .before .before .before .before .read .ensures .0)
 
 pub load-spec : {M : Type 1} → statement M
 load-spec =
@@ -44,8 +44,8 @@ load-spec =
     opened-requires
     fail-requires
     returns
-    read-full-requires
-    complete-requires
+    read-requires
+    whole-requires
     fail-requires-2
     close-requires
     counted-requires

@@ -1,6 +1,6 @@
 use borrow.Author.Needs.{needs}
-use Rattle.show.proofs.goes_on.Statement.{statement}
-use Rattle.show.proofs.goes_on.Tie as tie
+use Rattle.intake.proofs.goes_on.Statement.{statement}
+use Rattle.intake.proofs.goes_on.Tie as tie
 
 returns : tie.Need-returns
 returns c = rw (c .if1 .taken)

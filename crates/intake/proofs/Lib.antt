@@ -1,0 +1,2 @@
+-- Decisions: tests of signed numbers, and that reading ends.
+pub mod Decisions
