@@ -1,4 +1,4 @@
--- Tests of signed numbers, as the code makes them on their bits.
+-- Tests of signed numbers, as the code makes them on their bits, and that reading ends.
 use mathlib.Core.Path.{_≡_, refl, sym, ap, _∙_}
 use Prim.Native.Nat.{ℕ, zero, suc, _+_, _-_, _≤_, _<_, zero-le}
 use native.Mathlib.Omega.{arith}

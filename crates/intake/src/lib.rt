@@ -2,7 +2,7 @@
 // with its answers is promised here.
 ghost use mathlib.Core.Path.{_≡_};
 ghost use Prim.Native.Nat.{_≤_};
-ghost use lib.ListN.{length};
+ghost use lib.ListN.{length, take};
 ghost use Rattle.intake.specs.Decisions.{isOpened, Stopped, isWhole, counted, goesOn};
 
 // Whether a file is open, by the number that opening it answered.
@@ -18,6 +18,14 @@ pub struct Got {
     pub last: isize,
 }
 
+// Makes one read into buf behind its first n bytes, which stay as they are, and answers what it answered.
+fn read_behind(fd: i32, n: usize, buf: &mut [u8]) -> isize
+    requires { ⌜ n ≤ length (now buf) ⌝ }
+    ensures { λ r. ⌜ take n (now (buf .exit)) ≡ take n (now (buf .entry)) ⌝ }
+{
+    libc::read(fd, &mut buf[n..])
+}
+
 // Reads into buf until it is full, or a read answers 0, the end, or less, a failure. After such an answer it reads no more,
 // since the system may report a failure only once.
 pub fn read(fd: i32, buf: &mut [u8]) -> Got
@@ -27,7 +35,7 @@ pub fn read(fd: i32, buf: &mut [u8]) -> Got
     let mut n = 0;
     let mut last = 1isize;
     while last > 0 && n < buf.len() {
-        last = libc::read(fd, &mut buf[n..]);
+        last = read_behind(fd, n, buf);
         n += io::count(last, &buf[n..]);
     }
     Got { n, last }

@@ -1,20 +1,15 @@
 use mathlib.Core.Path.{_≡_, sym, _∙_}
+use Prim.Native.Nat.{_≤_}
 use mathlib.Core.Logic.{inl, inr}
-use Prim.Native.Nat.{_-_, _≤_}
 use lib.ListN.{length}
 use mir.Syntax.{w64}
 use mir.Val.{toZ, ofZ}
 use Rattle.intake.proofs.Decisions.{moving-is, toRead, read-less}
-use borrow.Rule.Slice.PartMut.{putMid}
 use borrow.Author.Needs.{needs}
 use borrow.Author.Tests.{ltb-true, ltb-false}
 use native.Mathlib.Omega.{arith}
 use Rattle.intake.proofs.read.Statement.{statement}
 use Rattle.intake.proofs.read.Tie as tie
-use Rattle.intake.proofs.read.Reads as reads
-use Rattle.intake.proofs.read.Lts as lts
-use Rattle.io.proofs.count.Reads as count-reads
-use Rattle.libc.proofs.read.Reads as read-reads
 
 abbrev Inv-loop : tie.InvT-loop
 Inv-loop fd buf₀ n₀ last₀ buf n last = (length buf ≡ length buf₀) × (n ≤ length buf)
@@ -25,17 +20,8 @@ abbrev μ-loop : tie.MeasureT-loop
 loop-holds : tie.Need-loop-holds Inv-loop μ-loop
 loop-holds c = search needs
 
-sub-read : tie.Need-sub-read Inv-loop μ-loop
-sub-read c = search needs
-
-part-read-start : tie.Need-part-read-start Inv-loop μ-loop
-part-read-start c = search needs
-
-part-read-end : tie.Need-part-read-end Inv-loop μ-loop
-part-read-end c = search needs
-
-read-requires : tie.Need-read-requires Inv-loop μ-loop
-read-requires c κs = search needs
+read-behind-requires : tie.Need-read-behind-requires Inv-loop μ-loop
+read-behind-requires c κs = search needs
 
 sub-count : tie.Need-sub-count Inv-loop μ-loop
 sub-count c = search needs
@@ -60,10 +46,8 @@ loop-less c =
     let at-read = c .before .before .before .before .before in
     let in-loop = at-read .before .before .before in
     let at-loop = in-loop .before in
-    let buf = at-loop .loop .buf in
-    let n = at-loop .loop .n in
-    read-less (length buf) n (c .count .result) (putMid n (length buf - n) buf (at-read .read .last .1 .0)) (toZ w64 (at-loop .loop .last)) (toZ w64 (ofZ w64 (at-read .read .result)))
-    (in-loop .loop-test .taken) (omega (arith, ltb-true)) (omega (arith, loop-again c)) (c .count .ensures .1)
+    read-less (length (at-loop .loop .buf)) (at-loop .loop .n) (c .count .result) (at-read .read-behind .last .1 .1 .0) (toZ w64 (at-loop .loop .last)) (toZ w64 (ofZ w64 (at-read .read-behind .result)))
+    (in-loop .loop-test .taken) (omega (arith, ltb-true)) (at-read .read-behind .kept .1 .1 .0) (c .count .ensures .1)
 
 same-length : tie.Need-same-length Inv-loop μ-loop
 same-length c = search needs
@@ -84,10 +68,7 @@ read-spec =
     Inv-loop
     μ-loop
     loop-holds
-    sub-read
-    part-read-start
-    part-read-end
-    read-requires
+    read-behind-requires
     sub-count
     part-count-start
     part-count-end
