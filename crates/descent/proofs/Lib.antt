@@ -6,3 +6,4 @@ pub mod Placing
 pub mod Fitting
 pub mod Running
 pub mod Promise
+pub mod Placed

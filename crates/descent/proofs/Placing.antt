@@ -14,7 +14,7 @@ use Rattle.bits.specs.Rows.{Row, row, zeroed}
 use Rattle.bits.proofs.RowLaws.{paste-set, row-room, row-same, row-other, zeroed-fits}
 use Rattle.model.specs.Model.{symbol}
 use Rattle.ruling.specs.Values.{unitRow, rowValues}
-use Rattle.descent.specs.Block.{slotOf, symAt, PlaceOne, Prepared}
+use Rattle.descent.specs.Block.{slotOf, symAt, PlaceOne, markOf, Marked, Prepared}
 
 gone : (c w s : ℕ) → 1 < s → none ≡ symbol (rowValues c w) s
 gone c w zero p = absurd (omega arith)
@@ -55,6 +55,28 @@ module _ (c w j s : ℕ) (v m v₁ : List ℕ) (lv : length v ≡ length m * w) 
   place-one cw q =
       let ev = ap (λ (l : List ℕ). set l (j * w + c) 1) cleared ∙ paste-set v (replicate w 0) (j * w) w room (length-replicate w 0) c 1 cw in
       put (unitRow c w) (unit-wide c w) (set v₁ (j * w + c) 1) ev 1 (sym (ap (symbol (rowValues c w)) q))
+
+-- ---- marks alone
+
+pub mark-gone : (s : ℕ) → 1 < s → 0 ≡ markOf s
+mark-gone zero p = absurd (omega arith)
+mark-gone (suc zero) p = absurd (omega arith)
+mark-gone (suc (suc s)) p = refl
+
+pub mark-known : (s : ℕ) → s ≤ 1 → 1 ≡ markOf s
+mark-known zero p = refl
+mark-known (suc zero) p = refl
+mark-known (suc (suc s)) p = absurd (omega arith)
+
+pub mark-turn : {j s a : ℕ} {word m : List ℕ} → s ≡ getD word j 2 → a ≡ markOf s → j < length m → Marked j word m → Marked (j + 1) word (set m j a)
+mark-turn {j} {s} {a} {word} {m} e q l u = record { slot = λ i p. let h : i ≤ j = omega arith in go i (eq-or-lt-of-le h) }
+  where
+    go : (i : ℕ) → (i ≡ j) ⊎ (i < j) → getD (set m j a) i 0 ≡ markOf (getD word i 2)
+    go i (inl z) = rw z (getD-set-same m j a 0 l ∙ q ∙ ap markOf e)
+    go i (inr p) = getD-set-other m j i a 0 (λ z. omega arith) ∙ u .slot i p
+
+pub mark-end : {j k : ℕ} {word m : List ℕ} → Marked j word m → k ≤ j → Marked k word m
+mark-end u h = record { slot = λ i p. u .slot i (omega arith) }
 
 -- ---- the loop
 

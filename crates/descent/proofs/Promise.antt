@@ -78,10 +78,10 @@ only-one a b v u e v′ u′ e′ meant p q =
 -- ---- the model's rows
 
 -- what a relation says of each value that the model finds: it has w words
-abbrev HasWords : ℕ → Row → Row → Type 0
+abbrev pub HasWords : ℕ → Row → Row → Type 0
 HasWords w a b = length a ≡ w
 
-words-bound : (lim c w : ℕ) → Bound (HasWords w) lim (rowValues c w) (rowValues c w)
+pub words-bound : (lim c w : ℕ) → Bound (HasWords w) lim (rowValues c w) (rowValues c w)
 words-bound lim c w =
     record {
       plus = λ {a} {a′} p q. length-⊻ a a′ w p q;
@@ -90,7 +90,7 @@ words-bound lim c w =
       unknown = λ k i. length-set (replicate w 0) _ _ ∙ length-replicate w 0;
     }
 
-along-wide : {w : ℕ} {l m : List Row} → Along (HasWords w) l m → Wide w l
+pub along-wide : {w : ℕ} {l m : List Row} → Along (HasWords w) l m → Wide w l
 along-wide nil = tt
 along-wide (cons h t) = (h, along-wide t)
 

@@ -74,6 +74,22 @@ pub record Joined (w h : ℕ) (v v′ : List ℕ) : Type 0 where
 
 -- ---- a word
 
+-- mark 0 for an erased symbol, else 1
+abbrev pub markOf : ℕ → ℕ
+markOf zero = 1
+markOf (suc zero) = 1
+markOf (suc (suc s)) = 0
+
+-- a symbol whose row, where it is known, is at hand
+abbrev pub held : ℕ → Row → Option Row
+held zero x = some x
+held (suc zero) x = some x
+held (suc (suc s)) x = none
+
+-- slot j, for each j below k, has the mark of symbol j of the word
+pub record Marked (k : ℕ) (word m : List ℕ) : Type 0 where
+  pub slot : (j : ℕ) → j < k → getD m j 0 ≡ markOf (getD word j 2)
+
 -- slot j holds the symbol s
 pub record PlaceOne (c w j s : ℕ) (v m v′ m′ : List ℕ) : Type 0 where
   pub slot : symAt w m′ v′ j ≡ symbol (rowValues c w) s

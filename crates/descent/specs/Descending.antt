@@ -3,20 +3,23 @@
 --     fitting              whether all that is handed over fits together
 --     Outcome, descended   an answer, and what the three lists hold
 --     descending           the answer and the lists after the call
+--     descendingRows       the same of known symbols whose rows are placed
 use mathlib.Core.Path.{_≡_}
 use Prim.Native.Nat.{ℕ, _-_, _*_, _^_, _≤_, _<_}
 use mathlib.Core.Bool.{Bool, _&&_}
 use mathlib.Core.List.{List, _++_, flatten}
-use lib.ListN.{length, replicate}
+use mathlib.Core.Option.{Option}
+use lib.ListN.{length, getD, replicate}
 use lib.Dec.{eqb, leb, ltb}
-use Rattle.bits.specs.Vectors.{pick}
-use Rattle.bits.specs.Rows.{Row}
+use Rattle.bits.specs.Vectors.{pick, tab}
+use Rattle.bits.specs.Rows.{Row, row}
 use Rattle.meaning.specs.Limits.{largestN, recordBytes}
 use Rattle.meaning.specs.Sheet.{ruleAt, rules}
 use Rattle.meaning.specs.Open.{unknowns}
 use Rattle.counting.specs.Counting.{shaped}
-use Rattle.model.specs.Model.{Out, run}
+use Rattle.model.specs.Model.{Out, start, decode, run}
 use Rattle.ruling.specs.Values.{rowValues}
+use Rattle.descent.specs.Block.{held}
 use Rattle.descent.specs.declared.Descent.{Descent}
 use Rattle.descent.specs.declared.Descent.the-variants.{Misfit, Over, Done}
 
@@ -51,6 +54,14 @@ descended a vals us eqs = record { answer = a; vals = vals; us = us; eqs = eqs }
 abbrev pub found : ℕ → List ℕ → List ℕ → ℕ → ℕ → Out Row
 found n sheet word c w = run (rowValues c w) (ruleAt sheet) n word
 
+-- the symbols of a word whose known ones have their rows in a list
+abbrev pub placed : ℕ → List ℕ → List ℕ → List (Option Row)
+placed w word vals = tab (length word) (λ (j : ℕ). held (getD word j 2) (row w vals j))
+
+-- the model on these
+abbrev pub foundRows : ℕ → List ℕ → List ℕ → ℕ → ℕ → List ℕ → Out Row
+foundRows n sheet word c w vals = decode (rowValues c w) (ruleAt sheet) n (placed w word vals) start
+
 -- its rows one after the other: of the symbols, of u, and of the equations, followed by zeros
 abbrev pub written : ℕ → ℕ → ℕ → Out Row → Outcome
 written n g w o =
@@ -63,6 +74,14 @@ descending n sheet word most c w vals us eqs =
     let g = unknowns n (rules n sheet) word in
     pick (fitting n (length sheet) (length word) most c w (length vals) (length us) (length eqs))
     (pick (ltb most g) (descended (Over g) vals us eqs) (written n g w (found n sheet word c w)))
+    (descended Misfit vals us eqs)
+
+-- the same where the known symbols have their rows in `vals`
+unfoldable pub descendingRows : ℕ → List ℕ → List ℕ → ℕ → ℕ → ℕ → List ℕ → List ℕ → List ℕ → Outcome
+descendingRows n sheet word most c w vals us eqs =
+    let g = unknowns n (rules n sheet) word in
+    pick (fitting n (length sheet) (length word) most c w (length vals) (length us) (length eqs))
+    (pick (ltb most g) (descended (Over g) vals us eqs) (written n g w (foundRows n sheet word c w vals)))
     (descended Misfit vals us eqs)
 
 -- ---- the descent alone, of what fits together

@@ -1,5 +1,5 @@
 -- What `descend` promises, and the steps by which it is proved.
 --     Descending     what `descend` promises
 --     Block          the steps of the descent
-pub mod Descending
 pub mod Block
+pub mod Descending

@@ -1,6 +1,6 @@
 // The decoder's descent: rows of a word's symbols, of u and of the equations, over any number of words to a row.
 ghost use mathlib.Core.Path.{_≡_};
-ghost use Rattle.descent.specs.Descending.{descended, descending};
+ghost use Rattle.descent.specs.Descending.{descended, descending, descendingRows};
 
 mod block;
 mod leaf;
@@ -59,5 +59,43 @@ pub fn descend(
     let mut marks: [u8; meaning::limits::POSITIONS] = [0; meaning::limits::POSITIONS];
     let size = word.len();
     let m = word::run(n, sheet, word, c, w, vals, &mut marks[..size], us, eqs);
+    Descent::Done { g, m }
+}
+
+// The same of a word whose known symbols have their rows in `vals` already: any rows of w words. A symbol is known where
+// `word` has 0 or 1, and erased where it has more.
+pub fn descend_rows(
+    n: usize,
+    sheet: &[u8],
+    word: &[u8],
+    most: usize,
+    c: usize,
+    w: usize,
+    vals: &mut [u64],
+    us: &mut [u64],
+    eqs: &mut [u64],
+) -> Descent
+    ensures { λ r. ⌜ descended r (now (vals .exit)) (now (us .exit)) (now (eqs .exit)) ≡ descendingRows n (now (sheet .entry)) (now (word .entry)) most c w (now (vals .entry)) (now (us .entry)) (now (eqs .entry)) ⌝ }
+{
+    if !limits::fits(
+        n,
+        sheet.len(),
+        word.len(),
+        most,
+        c,
+        w,
+        vals.len(),
+        us.len(),
+        eqs.len(),
+    ) {
+        return Descent::Misfit;
+    }
+    let g = counting::unknowns(n, sheet, word);
+    if most < g {
+        return Descent::Over { g };
+    }
+    let mut marks: [u8; meaning::limits::POSITIONS] = [0; meaning::limits::POSITIONS];
+    let size = word.len();
+    let m = word::run_marked(n, sheet, word, c, w, vals, &mut marks[..size], us, eqs);
     Descent::Done { g, m }
 }

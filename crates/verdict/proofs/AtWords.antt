@@ -34,12 +34,12 @@ use Rattle.verdict.specs.Reading.{constant}
 use Rattle.verdict.proofs.Listing.{map-filter}
 use Rattle.verdict.proofs.OneBit.{has-nought, has-same, has-other, unit-row, dot-nought, dot-unknown, lead-within}
 
-each-along : {A : Type 0} {P : Row → Type 0} {l : List Row} {m : List A} → Along (λ (x : Row) (a : A). P x) l m → Each P l
+pub each-along : {A : Type 0} {P : Row → Type 0} {l : List Row} {m : List A} → Along (λ (x : Row) (a : A). P x) l m → Each P l
 each-along nil i h = absurd (omega arith)
 each-along (cons p t) zero h = p
 each-along (cons p t) (suc i) h = each-along t i (omega arith)
 
-all-map : {A B : Type 0} (f : A → B) (p : B → Bool) (l : List A) → all p (map f l) ≡ all (λ (a : A). p (f a)) l
+pub all-map : {A B : Type 0} (f : A → B) (p : B → Bool) (l : List A) → all p (map f l) ≡ all (λ (a : A). p (f a)) l
 all-map f p [] = refl
 all-map f p (a ∷ l) = ap (λ (b : Bool). p (f a) && b) (all-map f p l)
 
@@ -64,10 +64,10 @@ module _ (c w g : ℕ) (hc : c < w) (hg : g ≤ 64 * c) where
       }
 
   -- no coefficient at or above g
-  abbrev Few : Row → Row → Type 0
+  abbrev pub Few : Row → Row → Type 0
   Few x y = lead c x ≤ g
 
-  lead-bound : Bound Few g (rowValues c w) (rowValues c w)
+  pub lead-bound : Bound Few g (rowValues c w) (rowValues c w)
   lead-bound =
       record {
         plus = λ {a} {a′} p q. lead-⊻-le c g a a′ p q;

@@ -19,7 +19,7 @@ use Rattle.bits.proofs.Xor.{⊕-false}
 use Rattle.bits.proofs.Rising.{all-bits, bits-length, rises-bits, rises-filter}
 use Rattle.gf2.specs.Rows.{at}
 use Rattle.gf2.specs.Solve.{lead, solve}
-use Rattle.gf2.specs.System.{Within, Hom, dot, value, solves, consistent, completed, unit}
+use Rattle.gf2.specs.System.{Within, Hom, led, dot, value, solves, consistent, completed, unit}
 use Rattle.gf2.proofs.Rows.{has-⊻}
 use Rattle.gf2.proofs.Passes.{getD-map, solve-sized}
 use Rattle.gf2.proofs.Fill.{length-fill, dot-append, dot-none}
@@ -28,29 +28,34 @@ use Rattle.gf2.proofs.Solutions.{after, rest, rest-within, completed-solves, fi
 use Rattle.meaning.specs.Strips.{settledAt, first, last, strips}
 use Rattle.meaning.specs.Answers.{verdict, writing}
 use Rattle.meaning.specs.declared.Answer.the-variants.{Unique, Ambiguous}
-use Rattle.verdict.specs.Reading.{constant, rowSettled, rowFirst, rowLast, rowStrips, rowVerdict}
+use Rattle.verdict.specs.Reading.{constant, rowStrips, rowVerdict}
 use Rattle.verdict.proofs.Listing.{first-of, last-of, common-same, common-other, tab-places, places, strips-are, verdict-none, verdict-is}
 
-module _ (c : ℕ) (e r : List Row) (g : ℕ) (hg : g ≤ 64 * c) (B : Within c g e) where
-  abbrev κ : Row → Bool
-  κ x = constant c x
+-- κ gives a row's constant
+module _ (c : ℕ) (κ : Row → Bool) (hom : Hom κ) (e r : List Row) (g : ℕ) (hg : g ≤ 64 * c) (B : Within c g e) where
+  -- what the row of a symbol says of it: where every free unknown is 0, where each is 1, and 2 where a coefficient is left
+  abbrev firstBy : Row → ℕ
+  firstBy x = bit (κ x)
 
-  hom : Hom κ
-  hom = has-⊻ (64 * c)
+  abbrev lastBy : Row → ℕ
+  lastBy x = bit (dot 0 x (replicate (64 * c) true) ⊕ κ x)
 
-  abbrev solutions : List (List Bool)
+  abbrev pub settledBy : Row → ℕ
+  settledBy x = pick (led c x) 2 (bit (κ x))
+
+  abbrev pub solutions : List (List Bool)
   solutions = filter (solves κ e) (allBits g)
 
-  abbrev block : List Bool → List Bool
+  abbrev pub block : List Bool → List Bool
   block t = map (value κ t) r
 
-  sized : length (rest c e r) ≡ length r
+  pub sized : length (rest c e r) ≡ length r
   sized = solve-sized c e r .1
 
   member : (t : List Bool) → List·Memᴰ t solutions → (length t ≡ g) × (solves κ e t ≡ true)
   member t m = let (k, s) = filter-mem (solves κ e) (allBits g) m in (bits-length g t k, s)
 
-  size : length (map block solutions) ≡ pick (consistent c κ (after c e r)) (2 ^ (g - (solve c e r) .rank)) 0
+  pub size : length (map block solutions) ≡ pick (consistent c κ (after c e r)) (2 ^ (g - (solve c e r) .rank)) 0
   size = length-map solutions block ∙ length-filter (solves κ e) (allBits g) ∙ solution-count c e r κ hom g hg B
 
   module _ (ok : consistent c κ (after c e r) ≡ true) where
@@ -66,11 +71,11 @@ module _ (c : ℕ) (e r : List Row) (g : ℕ) (hg : g ≤ 64 * c) (B : Within c 
     abbrev highest : List Bool
     highest = completed c κ (after c e r) (replicate g true)
 
-    the-first : first (map block solutions) ≡ map (rowFirst c) (rest c e r)
+    the-first : first (map block solutions) ≡ map (firstBy) (rest c e r)
     the-first =
         first-of block solutions lowest (rises-filter Before (solves κ e) (allBits g) (rises-bits g)) (full (replicate g false) (length-replicate g false))
         (λ y m. let (l, s) = member y m in first-solution c e r κ hom g hg B y l s)
-        ∙ places [] (value κ lowest) (rowFirst c) r (rest c e r) sized (λ j l. ap bit (first-value c e r κ hom g hg B ok j l))
+        ∙ places [] (value κ lowest) (firstBy) r (rest c e r) sized (λ j l. ap bit (first-value c e r κ hom g hg B ok j l))
 
     -- ---- whether all agree
 
@@ -88,14 +93,14 @@ module _ (c : ℕ) (e r : List Row) (g : ℕ) (hg : g ≤ 64 * c) (B : Within c 
           ∙ ap (λ (b : Bool). dot 0 x (replicate g true) ⊕ b) (dot-none (0 + length (replicate g true)) x (replicate k true) (λ t p q. lead-above c x t (omega (arith, rest-within c e r g B C j h)) (omega arith)))
           ∙ ⊕-false (dot 0 x (replicate g true))
 
-      the-last : last (map block solutions) ≡ map (rowLast c) (rest c e r)
+      the-last : last (map block solutions) ≡ map (lastBy) (rest c e r)
       the-last =
           last-of block solutions highest (rises-filter Before (solves κ e) (allBits g) (rises-bits g)) (full (replicate g true) (length-replicate g true))
           (λ y m. let (l, s) = member y m in last-solution c e r κ hom g hg B y l s)
-          ∙ places [] (value κ highest) (rowLast c) r (rest c e r) sized
+          ∙ places [] (value κ highest) (lastBy) r (rest c e r) sized
           (λ j l. ap bit (rest-by-free c e r κ hom g hg B ok (replicate g true) (length-replicate g true) j l) ∙ ap (λ (b : Bool). bit (b ⊕ κ (at (rest c e r) j))) (sym (sum-all j l)))
 
-      settled-at : (j : ℕ) → j < length r → settledAt (map block solutions) j ≡ rowSettled c (at (rest c e r) j)
+      pub settled-at : (j : ℕ) → j < length r → settledAt (map block solutions) j ≡ settledBy (at (rest c e r) j)
       settled-at j h = go (lead c (at (rest c e r) j)) refl
         where
           x : Row
@@ -107,7 +112,7 @@ module _ (c : ℕ) (e r : List Row) (g : ℕ) (hg : g ≤ 64 * c) (B : Within c 
           low : List·Memᴰ (block lowest) (map block solutions)
           low = Memᴰ·map block (full (replicate g false) (length-replicate g false))
 
-          go : (n : ℕ) → lead c x ≡ n → settledAt (map block solutions) j ≡ rowSettled c x
+          go : (n : ℕ) → lead c x ≡ n → settledAt (map block solutions) j ≡ settledBy x
           go zero q =
               common-same (λ (y : List Bool). getD y j false) (map block solutions) (κ x) (block lowest) low
               (λ y m.
@@ -122,26 +127,32 @@ module _ (c : ℕ) (e r : List Row) (g : ℕ) (hg : g ≤ 64 * c) (B : Within c 
               low (Memᴰ·map block (full (unit g b) (length-set (replicate g false) b true ∙ length-replicate g false))) (read lowest ∙ a) (read _ ∙ z)
               ∙ sym (rw (ne-eqb (lead c x) 0 (λ (w : lead c x ≡ 0). omega arith)) refl)
 
-      the-strips : (n : ℕ) → length r ≡ 2 ^ n → strips n (map block solutions) ≡ rowStrips c (rest c e r)
-      unfolding rowStrips
+      pub the-strips : (n : ℕ) → length r ≡ 2 ^ n → strips n (map block solutions) ≡ map settledBy (rest c e r) ++ map firstBy (rest c e r) ++ map lastBy (rest c e r)
       the-strips n l =
           strips-are n (map block solutions)
           ∙ ap₂ (λ (a b : List ℕ). a ++ b)
-          (ap₂ (λ (a b : List ℕ). a ++ b) (tab-places [] (2 ^ n) (settledAt (map block solutions)) (rowSettled c) (rest c e r) (sized ∙ l) (λ j h. settled-at j (omega arith))) the-first)
+          (ap₂ (λ (a b : List ℕ). a ++ b) (tab-places [] (2 ^ n) (settledAt (map block solutions)) (settledBy) (rest c e r) (sized ∙ l) (λ j h. settled-at j (omega arith))) the-first)
           the-last
 
-  -- ---- the verdict
+-- ---- the verdict
 
-  pub verdict-rows : Within c g r → (n : ℕ) → length r ≡ 2 ^ n → (m : ℕ) (out : List ℕ) → verdict n g m (map block solutions) out ≡ rowVerdict c g m (solve c e r) out
-  unfolding rowVerdict verdict
-  verdict-rows C n l m out = go (consistent c κ (after c e r)) refl
+module _ (c : ℕ) (e r : List Row) (g : ℕ) (hg : g ≤ 64 * c) (B : Within c g e) where
+  abbrev κ₀ : Row → Bool
+  κ₀ x = constant c x
+
+  abbrev found : List (List Bool)
+  found = map (block c κ₀ (has-⊻ (64 * c)) e r g hg B) (solutions c κ₀ (has-⊻ (64 * c)) e r g hg B)
+
+  pub verdict-rows : Within c g r → (n : ℕ) → length r ≡ 2 ^ n → (m : ℕ) (out : List ℕ) → verdict n g m found out ≡ rowVerdict c g m (solve c e r) out
+  unfolding rowVerdict verdict rowStrips
+  verdict-rows C n l m out = go (consistent c κ₀ (after c e r)) refl
     where
       d : ℕ
       d = g - (solve c e r) .rank
 
-      go : (b : Bool) → consistent c κ (after c e r) ≡ b → verdict n g m (map block solutions) out ≡ rowVerdict c g m (solve c e r) out
+      go : (b : Bool) → consistent c κ₀ (after c e r) ≡ b → verdict n g m found out ≡ rowVerdict c g m (solve c e r) out
       go true q =
           rw q
-          (verdict-is n g m (map block solutions) out d (rw q at size)
-          ∙ ap (λ (s : List ℕ). pick (eqb d 0) (writing s out (Unique g m)) (writing s out (Ambiguous g m d))) (the-strips q C n l))
-      go false q = rw q (verdict-none n g m (map block solutions) out (rw q at size))
+          (verdict-is n g m found out d (rw q at (size c κ₀ (has-⊻ (64 * c)) e r g hg B))
+          ∙ ap (λ (s : List ℕ). pick (eqb d 0) (writing s out (Unique g m)) (writing s out (Ambiguous g m d))) (the-strips c κ₀ (has-⊻ (64 * c)) e r g hg B q C n l))
+      go false q = rw q (verdict-none n g m found out (rw q at (size c κ₀ (has-⊻ (64 * c)) e r g hg B)))
