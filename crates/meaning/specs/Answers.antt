@@ -20,7 +20,7 @@ use Rattle.meaning.specs.Codewords.{candidates, payloadOf, carrying}
 use Rattle.meaning.specs.Open.{unknowns, equations}
 use Rattle.meaning.specs.Strips.{first, strips, dimension}
 use Rattle.meaning.specs.declared.Answer.{Answer}
-use Rattle.meaning.specs.declared.Answer.the-variants.{Done, Unique, Ambiguous, Inconsistent, BadShape, BadRecord, BadCheck, BadLength, BadSymbol, ShortOutput, BadCeiling, TooMany, HoldsNothing}
+use Rattle.meaning.specs.declared.Answer.the-variants.{Done, Unique, Ambiguous, Inconsistent, LaneInconsistent, BadShape, BadRecord, BadCheck, BadLength, BadSymbol, ShortOutput, BadCeiling, TooMany, HoldsNothing}
 
 -- ---- the numbers of each answer
 
@@ -30,6 +30,7 @@ numbersOf Done = 0 ∷ 0 ∷ 0 ∷ 0 ∷ 0 ∷ []
 numbersOf (Unique g m) = 0 ∷ 0 ∷ g ∷ m ∷ 0 ∷ []
 numbersOf (Ambiguous g m d) = 1 ∷ 0 ∷ g ∷ m ∷ d ∷ []
 numbersOf (Inconsistent g m) = 2 ∷ 0 ∷ g ∷ m ∷ 0 ∷ []
+numbersOf (LaneInconsistent t g m) = 2 ∷ t ∷ g ∷ m ∷ 0 ∷ []
 numbersOf BadShape = 11 ∷ 0 ∷ 0 ∷ 0 ∷ 0 ∷ []
 numbersOf (BadRecord i) = 12 ∷ i ∷ 0 ∷ 0 ∷ 0 ∷ []
 numbersOf BadCheck = 13 ∷ 0 ∷ 0 ∷ 0 ∷ 0 ∷ []
@@ -46,6 +47,7 @@ isDone Done = true
 isDone (Unique g m) = false
 isDone (Ambiguous g m d) = false
 isDone (Inconsistent g m) = false
+isDone (LaneInconsistent t g m) = false
 isDone BadShape = false
 isDone (BadRecord i) = false
 isDone BadCheck = false

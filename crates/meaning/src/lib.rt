@@ -4,7 +4,7 @@ ghost use Rattle.meaning.specs.Answers.{numbersOf, isDone};
 
 pub mod limits;
 
-// An answer: one case for each row of 01's table, and `Done`, the 0 of the calls that have no verdict.
+// An answer: one case for each row of 01's table, `Done`, the 0 of the calls that have no verdict, and the 2 of a strip.
 pub enum Answer {
     // 0: the call did its work.
     Done,
@@ -14,6 +14,8 @@ pub enum Answer {
     Ambiguous { g: usize, m: usize, d: usize },
     // 2: no codeword agrees.
     Inconsistent { g: usize, m: usize },
+    // 2: of a strip, no codeword agrees in this lane, the first such.
+    LaneInconsistent { lane: usize, g: usize, m: usize },
     // 11: n is too large, or the sheet's length is not that of N records.
     BadShape,
     // 12: the first record that breaks a rule.
@@ -43,6 +45,7 @@ pub fn numbers(a: Answer) -> [usize; 5]
         Answer::Unique { g, m } => [0, 0, g, m, 0],
         Answer::Ambiguous { g, m, d } => [1, 0, g, m, d],
         Answer::Inconsistent { g, m } => [2, 0, g, m, 0],
+        Answer::LaneInconsistent { lane, g, m } => [2, lane, g, m, 0],
         Answer::BadShape => [11, 0, 0, 0, 0],
         Answer::BadRecord { place } => [12, place, 0, 0, 0],
         Answer::BadCheck => [13, 0, 0, 0, 0],
@@ -64,6 +67,7 @@ pub fn is_done(a: Answer) -> bool
         Answer::Unique { g: _, m: _ } => false,
         Answer::Ambiguous { g: _, m: _, d: _ } => false,
         Answer::Inconsistent { g: _, m: _ } => false,
+        Answer::LaneInconsistent { lane: _, g: _, m: _ } => false,
         Answer::BadShape => false,
         Answer::BadRecord { place: _ } => false,
         Answer::BadCheck => false,

@@ -22,7 +22,7 @@ use Rattle.meaning.specs.Open.{openFree, closedFrozen, openAll, unknowns, equat
 use Rattle.meaning.specs.Strips.{settledAt, settled, last, strips, dimension}
 use Rattle.meaning.specs.Answers.{Refusal, firstOf, refuses, Reply, leaving, numbersOf, sheetRefusals, wordRefusals, formRefusals, decodeRefusals, verdict, decoding}
 use Rattle.meaning.specs.declared.Answer.{Answer}
-use Rattle.meaning.specs.declared.Answer.the-variants.{Done, Unique, Ambiguous, Inconsistent, BadShape, BadRecord, BadCheck, BadLength, BadSymbol, ShortOutput, BadCeiling, TooMany, HoldsNothing}
+use Rattle.meaning.specs.declared.Answer.the-variants.{Done, Unique, Ambiguous, Inconsistent, LaneInconsistent, BadShape, BadRecord, BadCheck, BadLength, BadSymbol, ShortOutput, BadCeiling, TooMany, HoldsNothing}
 use Rattle.meaning.proofs.Sound.{length-rules}
 use Rattle.meaning.proofs.Candidates.{candidate}
 use Rattle.meaning.proofs.Polar.{length-polar}
@@ -93,6 +93,7 @@ numbers-five Done = refl
 numbers-five (Unique g m) = refl
 numbers-five (Ambiguous g m d) = refl
 numbers-five (Inconsistent g m) = refl
+numbers-five (LaneInconsistent t g m) = refl
 numbers-five BadShape = refl
 numbers-five (BadRecord i) = refl
 numbers-five BadCheck = refl

@@ -28,21 +28,11 @@ use Rattle.gf2.proofs.Solutions.{after, rest, rest-within, completed-solves, fi
 use Rattle.meaning.specs.Strips.{settledAt, first, last, strips}
 use Rattle.meaning.specs.Answers.{verdict, writing}
 use Rattle.meaning.specs.declared.Answer.the-variants.{Unique, Ambiguous}
-use Rattle.verdict.specs.Reading.{constant, rowStrips, rowVerdict}
+use Rattle.verdict.specs.Reading.{settledBy, firstBy, lastBy, stripsBy, verdictBy}
 use Rattle.verdict.proofs.Listing.{first-of, last-of, common-same, common-other, tab-places, places, strips-are, verdict-none, verdict-is}
 
 -- κ gives a row's constant
 module _ (c : ℕ) (κ : Row → Bool) (hom : Hom κ) (e r : List Row) (g : ℕ) (hg : g ≤ 64 * c) (B : Within c g e) where
-  -- what the row of a symbol says of it: where every free unknown is 0, where each is 1, and 2 where a coefficient is left
-  abbrev firstBy : Row → ℕ
-  firstBy x = bit (κ x)
-
-  abbrev lastBy : Row → ℕ
-  lastBy x = bit (dot 0 x (replicate (64 * c) true) ⊕ κ x)
-
-  abbrev pub settledBy : Row → ℕ
-  settledBy x = pick (led c x) 2 (bit (κ x))
-
   abbrev pub solutions : List (List Bool)
   solutions = filter (solves κ e) (allBits g)
 
@@ -71,11 +61,11 @@ module _ (c : ℕ) (κ : Row → Bool) (hom : Hom κ) (e r : List Row) (g : ℕ)
     abbrev highest : List Bool
     highest = completed c κ (after c e r) (replicate g true)
 
-    the-first : first (map block solutions) ≡ map (firstBy) (rest c e r)
+    the-first : first (map block solutions) ≡ map (firstBy c κ) (rest c e r)
     the-first =
         first-of block solutions lowest (rises-filter Before (solves κ e) (allBits g) (rises-bits g)) (full (replicate g false) (length-replicate g false))
         (λ y m. let (l, s) = member y m in first-solution c e r κ hom g hg B y l s)
-        ∙ places [] (value κ lowest) (firstBy) r (rest c e r) sized (λ j l. ap bit (first-value c e r κ hom g hg B ok j l))
+        ∙ places [] (value κ lowest) (firstBy c κ) r (rest c e r) sized (λ j l. ap bit (first-value c e r κ hom g hg B ok j l))
 
     -- ---- whether all agree
 
@@ -93,14 +83,14 @@ module _ (c : ℕ) (κ : Row → Bool) (hom : Hom κ) (e r : List Row) (g : ℕ)
           ∙ ap (λ (b : Bool). dot 0 x (replicate g true) ⊕ b) (dot-none (0 + length (replicate g true)) x (replicate k true) (λ t p q. lead-above c x t (omega (arith, rest-within c e r g B C j h)) (omega arith)))
           ∙ ⊕-false (dot 0 x (replicate g true))
 
-      the-last : last (map block solutions) ≡ map (lastBy) (rest c e r)
+      the-last : last (map block solutions) ≡ map (lastBy c κ) (rest c e r)
       the-last =
           last-of block solutions highest (rises-filter Before (solves κ e) (allBits g) (rises-bits g)) (full (replicate g true) (length-replicate g true))
           (λ y m. let (l, s) = member y m in last-solution c e r κ hom g hg B y l s)
-          ∙ places [] (value κ highest) (lastBy) r (rest c e r) sized
+          ∙ places [] (value κ highest) (lastBy c κ) r (rest c e r) sized
           (λ j l. ap bit (rest-by-free c e r κ hom g hg B ok (replicate g true) (length-replicate g true) j l) ∙ ap (λ (b : Bool). bit (b ⊕ κ (at (rest c e r) j))) (sym (sum-all j l)))
 
-      pub settled-at : (j : ℕ) → j < length r → settledAt (map block solutions) j ≡ settledBy (at (rest c e r) j)
+      pub settled-at : (j : ℕ) → j < length r → settledAt (map block solutions) j ≡ settledBy c κ (at (rest c e r) j)
       settled-at j h = go (lead c (at (rest c e r) j)) refl
         where
           x : Row
@@ -112,7 +102,7 @@ module _ (c : ℕ) (κ : Row → Bool) (hom : Hom κ) (e r : List Row) (g : ℕ)
           low : List·Memᴰ (block lowest) (map block solutions)
           low = Memᴰ·map block (full (replicate g false) (length-replicate g false))
 
-          go : (n : ℕ) → lead c x ≡ n → settledAt (map block solutions) j ≡ settledBy x
+          go : (n : ℕ) → lead c x ≡ n → settledAt (map block solutions) j ≡ settledBy c κ x
           go zero q =
               common-same (λ (y : List Bool). getD y j false) (map block solutions) (κ x) (block lowest) low
               (λ y m.
@@ -127,32 +117,26 @@ module _ (c : ℕ) (κ : Row → Bool) (hom : Hom κ) (e r : List Row) (g : ℕ)
               low (Memᴰ·map block (full (unit g b) (length-set (replicate g false) b true ∙ length-replicate g false))) (read lowest ∙ a) (read _ ∙ z)
               ∙ sym (rw (ne-eqb (lead c x) 0 (λ (w : lead c x ≡ 0). omega arith)) refl)
 
-      pub the-strips : (n : ℕ) → length r ≡ 2 ^ n → strips n (map block solutions) ≡ map settledBy (rest c e r) ++ map firstBy (rest c e r) ++ map lastBy (rest c e r)
+      pub the-strips : (n : ℕ) → length r ≡ 2 ^ n → strips n (map block solutions) ≡ stripsBy c κ (rest c e r)
       the-strips n l =
           strips-are n (map block solutions)
           ∙ ap₂ (λ (a b : List ℕ). a ++ b)
-          (ap₂ (λ (a b : List ℕ). a ++ b) (tab-places [] (2 ^ n) (settledAt (map block solutions)) (settledBy) (rest c e r) (sized ∙ l) (λ j h. settled-at j (omega arith))) the-first)
+          (ap₂ (λ (a b : List ℕ). a ++ b) (tab-places [] (2 ^ n) (settledAt (map block solutions)) (settledBy c κ) (rest c e r) (sized ∙ l) (λ j h. settled-at j (omega arith))) the-first)
           the-last
 
--- ---- the verdict
+  -- ---- the verdict
 
-module _ (c : ℕ) (e r : List Row) (g : ℕ) (hg : g ≤ 64 * c) (B : Within c g e) where
-  abbrev κ₀ : Row → Bool
-  κ₀ x = constant c x
-
-  abbrev found : List (List Bool)
-  found = map (block c κ₀ (has-⊻ (64 * c)) e r g hg B) (solutions c κ₀ (has-⊻ (64 * c)) e r g hg B)
-
-  pub verdict-rows : Within c g r → (n : ℕ) → length r ≡ 2 ^ n → (m : ℕ) (out : List ℕ) → verdict n g m found out ≡ rowVerdict c g m (solve c e r) out
-  unfolding rowVerdict verdict rowStrips
-  verdict-rows C n l m out = go (consistent c κ₀ (after c e r)) refl
+  pub verdict-rows : Within c g r → (n : ℕ) → length r ≡ 2 ^ n → (m : ℕ) (out : List ℕ)
+      → verdict n g m (map block solutions) out ≡ verdictBy c κ (stripsBy c κ (rest c e r)) g m (solve c e r) out
+  unfolding verdict
+  verdict-rows C n l m out = go (consistent c κ (after c e r)) refl
     where
       d : ℕ
       d = g - (solve c e r) .rank
 
-      go : (b : Bool) → consistent c κ₀ (after c e r) ≡ b → verdict n g m found out ≡ rowVerdict c g m (solve c e r) out
+      go : (b : Bool) → consistent c κ (after c e r) ≡ b → verdict n g m (map block solutions) out ≡ verdictBy c κ (stripsBy c κ (rest c e r)) g m (solve c e r) out
       go true q =
           rw q
-          (verdict-is n g m found out d (rw q at (size c κ₀ (has-⊻ (64 * c)) e r g hg B))
-          ∙ ap (λ (s : List ℕ). pick (eqb d 0) (writing s out (Unique g m)) (writing s out (Ambiguous g m d))) (the-strips c κ₀ (has-⊻ (64 * c)) e r g hg B q C n l))
-      go false q = rw q (verdict-none n g m found out (rw q at (size c κ₀ (has-⊻ (64 * c)) e r g hg B)))
+          (verdict-is n g m (map block solutions) out d (rw q at size)
+          ∙ ap (λ (s : List ℕ). pick (eqb d 0) (writing s out (Unique g m)) (writing s out (Ambiguous g m d))) (the-strips q C n l))
+      go false q = rw q (verdict-none n g m (map block solutions) out (rw q at size))
