@@ -2,6 +2,7 @@
 ghost use mathlib.Core.Path.{_≡_};
 ghost use Rattle.bits.specs.Words.{parityOf};
 
+pub mod octets;
 pub mod rows;
 
 // 1 if an odd number of the places that `mask` names hold 1 in `value`, else 0.

@@ -1,7 +1,7 @@
 -- For callers: Linear (the same solutions), Reduced (the form that is left), Solutions (which they are, and how many),
 -- Record (which equations were added), Packed (assignments in words), Calls (from the promise to these laws);
 -- and what these speak of: Rows (the XOR of rows), Cut (the rows of a list of words), Leads (a row's highest coefficient).
--- Behind the laws: Passes, Tally, Fill. Behind the code: Highest, Walk, Glue.
+-- Behind the laws: Passes, Tally, Fill. Behind the code: Highest, Walk, Glue, Coefficients.
 pub mod Linear
 pub mod Reduced
 pub mod Solutions
@@ -17,3 +17,4 @@ pub mod Fill
 pub mod Highest
 pub mod Walk
 pub mod Glue
+pub mod Coefficients

@@ -5,6 +5,7 @@
 // What a caller may conclude stands in proofs/, which Lib.antt lists.
 ghost use mathlib.Core.Path.{_≡_};
 ghost use Rattle.gf2.specs.Solve.{done, solved};
+ghost use Rattle.gf2.specs.System.{led};
 
 mod sweep;
 
@@ -41,4 +42,21 @@ pub fn eliminate(eqs: &mut [u64], rest: &mut [u64], c: usize, w: usize) -> Outco
     let q = rest.len() / w;
     let rank = sweep::run(eqs, m, rest, q, c, w);
     Outcome::Rank(rank)
+}
+
+// Whether a row has a coefficient: one of its first c words is not 0. Words behind its last count as 0.
+pub fn led(x: &[u64], c: usize) -> bool
+    ensures { λ r. ⌜ r ≡ led c (now (x .entry)) ⌝ }
+{
+    let mut k = 0;
+    while k < c {
+        if x.len() <= k {
+            return false;
+        }
+        if x[k] != 0 {
+            return true;
+        }
+        k += 1;
+    }
+    false
 }

@@ -1,51 +1,23 @@
 -- The bits of a mask's word, byte by byte.
---     one-byte, side-by-side     what bytes side by side hold
 --     no-word, no-record, all-there     the word that `word` reads
 --     word-there, word-here      of a record that is there it has the names
 --     word-same                  there is one such word
 use mathlib.Core.Path.{_≡_, refl, sym, ap, _∙_}
-use mathlib.Core.Logic.{⊎-elim}
-use Prim.Native.Nat.{ℕ, _+_, _*_, _-_, _/_, _%_, _^_, _≤_, _<_}
+use Prim.Native.Nat.{ℕ, _+_, _*_, _/_, _%_, _≤_, _<_}
 use native.Mathlib.Omega.{arith}
-use native.Mathlib.Nat.{add-comm}
 use mathlib.Core.Bool.{Bool, true, false, true≢false}
 use mathlib.Core.List.{List}
 use lib.ListN.{length, getD}
 use lib.Dec.{ltb}
 use borrow.Author.Tests.{lt-ltb, le-ltb}
 use Rattle.bits.specs.Words.{hasBit}
-use Rattle.bits.proofs.Tests.{and-r, and-i, le-or-lt}
-use Rattle.bits.proofs.WordBits.{low-bit, high-bit, join-lt, same-bits}
+use Rattle.bits.specs.Bytes.{Holds, EightOf}
+use Rattle.bits.proofs.Tests.{and-r, and-i}
+use Rattle.bits.proofs.WordBits.{same-bits}
+use Rattle.bits.proofs.Joining.{eight-there}
 use Rattle.meaning.specs.Limits.{recordBytes, maskBytes}
 use Rattle.meaning.specs.Sheet.{names}
-use Rattle.masks.specs.Masks.{maskWords, inside, Spelt, WordOf, Holds}
-
-pub one-byte : (s : List ℕ) (at : ℕ) → getD s at 0 < 256 → Holds 1 s at (getD s at 0)
-one-byte s at h = record {
-  bits = λ j l.
-      let p : at ≡ at + j / 8 = omega arith in
-      let q : j ≡ j % 8 = omega arith in
-      ap (λ (x : ℕ). hasBit (getD s x 0) j) p ∙ ap (hasBit (getD s (at + j / 8) 0)) q;
-  small = h;
-}
-
-pub side-by-side : (n : ℕ) (s : List ℕ) (at hi lo : ℕ) → Holds n s (at + n) hi → Holds n s at lo → Holds (n + n) s at (hi * 2 ^ (8 * n) + lo)
-side-by-side n s at hi lo h l = record {
-  bits = λ j b.
-      ⊎-elim
-      (λ (p : 8 * n ≤ j).
-      let t : ℕ = j - 8 * n in
-      let e : j ≡ 8 * n + t = omega arith in
-      let q : at + n + t / 8 ≡ at + j / 8 = omega arith in
-      let r : t % 8 ≡ j % 8 = omega arith in
-      ap (hasBit (hi * 2 ^ (8 * n) + lo)) e ∙ high-bit (8 * n) t lo hi (l .small) ∙ h .bits t (omega arith)
-      ∙ ap (λ (x : ℕ). hasBit (getD s x 0) (t % 8)) q ∙ ap (hasBit (getD s (at + j / 8) 0)) r)
-      (λ (p : j < 8 * n). low-bit (8 * n) j lo hi (l .small) p ∙ l .bits j p)
-      (le-or-lt (8 * n) j);
-  small =
-      let e : 8 * n + 8 * n ≡ 8 * (n + n) = omega arith in
-      rw (add-comm (hi * 2 ^ (8 * n)) lo, ← e) (join-lt (8 * n) (8 * n) lo hi (l .small) (h .small));
-}
+use Rattle.masks.specs.Masks.{maskWords, inside, Spelt, WordOf}
 
 spelt : (s : List ℕ) (i k r : ℕ) → Holds 8 s (i * recordBytes + 4 + 8 * k) r → Spelt s i k r
 unfolding names
@@ -67,9 +39,18 @@ pub no-record : (s : List ℕ) (i k : ℕ) → length s / recordBytes ≤ i → 
 unfolding inside
 no-record s i k h = record { there = λ e. absurd (true≢false (sym (and-r (ltb k maskWords) _ e) ∙ le-ltb i (length s / recordBytes) h)); missing = λ e. refl }
 
-pub all-there : (s : List ℕ) (i k r : ℕ) → k < maskWords → i < length s / recordBytes → Holds 8 s (i * recordBytes + 4 + 8 * k) r → WordOf s i k r
+-- the mask's bytes lie within the sheet
+mask-lies : (len i k : ℕ) → k < maskWords → i < len / recordBytes → i * recordBytes + 4 + 8 * k + 8 ≤ len
+unfolding maskBytes recordBytes
+mask-lies len i k hk hi = omega arith
+
+pub all-there : (s : List ℕ) (i k r : ℕ) → k < maskWords → i < length s / recordBytes → EightOf s (i * recordBytes + 4 + 8 * k) r → WordOf s i k r
 unfolding inside
-all-there s i k r hk hi h = record { there = λ e. spelt s i k r h; missing = λ e. absurd (true≢false (sym (and-i _ _ (lt-ltb k maskWords hk) (lt-ltb i (length s / recordBytes) hi)) ∙ e)) }
+all-there s i k r hk hi h =
+    record {
+      there = λ e. spelt s i k r (eight-there s (i * recordBytes + 4 + 8 * k) r (mask-lies (length s) i k hk hi) h);
+      missing = λ e. absurd (true≢false (sym (and-i _ _ (lt-ltb k maskWords hk) (lt-ltb i (length s / recordBytes) hi)) ∙ e));
+    }
 
 -- of a record that is there
 pub word-there : (s : List ℕ) (i k r : ℕ) → k < maskWords → (i + 1) * recordBytes ≤ length s → WordOf s i k r → Spelt s i k r

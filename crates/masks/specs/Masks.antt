@@ -3,12 +3,11 @@
 --     inside s i k      the sheet has record i, and its mask has word k
 --     Spelt s i k r     bit j of r is whether record i names position 64 k + j
 --     WordOf s i k r    r is word k of record i's mask, or 0 where there is none
---     Holds n s at r    r has the bits of n bytes from `at` on, the lowest first
 use mathlib.Core.Path.{_≡_}
-use Prim.Native.Nat.{ℕ, _+_, _*_, _/_, _%_, _^_, _<_}
+use Prim.Native.Nat.{ℕ, _+_, _*_, _/_, _^_, _<_}
 use mathlib.Core.Bool.{Bool, true, false, _&&_}
 use mathlib.Core.List.{List}
-use lib.ListN.{length, getD}
+use lib.ListN.{length}
 use lib.Dec.{ltb}
 use Rattle.bits.specs.Words.{hasBit}
 use Rattle.meaning.specs.Limits.{maskBytes, recordBytes}
@@ -27,7 +26,3 @@ pub record Spelt (s : List ℕ) (i k r : ℕ) : Type 0 where
 pub record WordOf (s : List ℕ) (i k r : ℕ) : Type 0 where
   pub there : inside s i k ≡ true → Spelt s i k r
   pub missing : inside s i k ≡ false → r ≡ 0
-
-pub record Holds (n : ℕ) (s : List ℕ) (at r : ℕ) : Type 0 where
-  pub bits : (j : ℕ) → j < 8 * n → hasBit r j ≡ hasBit (getD s (at + j / 8) 0) (j % 8)
-  pub small : r < 2 ^ (8 * n)

@@ -1,5 +1,4 @@
 -- One row, as the code reads it.
---     led-here, led-none               it has a coefficient where one of its first c words is not 0
 --     sum-none, sum-next, sum-all      the sum of its coefficients, word by word
 --     first-is, last-is, settled-.., agreeable-..     what the functions answer
 use mathlib.Core.Path.{_≡_, refl, sym, ap, ap₂, _∙_}
@@ -12,37 +11,16 @@ use lib.ListN.{getD, replicate, getD-replicate, replicate-append-replicate}
 use lib.Bits.{bitXor, bitAnd}
 use lib.Count.{ones}
 use lib.Dec.{eqb}
-use borrow.Author.Tests.{eq-eqb, ne-eqb}
 use Rattle.bits.specs.Vectors.{_⊕_, bit}
 use Rattle.bits.specs.Words.{parityOf, oddOf, wordBits}
 use Rattle.bits.specs.Rows.{Row}
-use mathlib.Core.Logic.{⊎-elim}
-use Rattle.bits.proofs.Tests.{eq-or-ne}
 use Rattle.bits.proofs.Words.{bit-cases, mod-two}
 use Rattle.bits.proofs.WordBits.{odd-xor}
 use Rattle.gf2.specs.Rows.{hasAt}
-use Rattle.gf2.specs.Solve.{lead}
 use Rattle.gf2.specs.System.{led, dot, unpack, parity}
-use Rattle.gf2.proofs.Reduced.{no-words, zero-words}
 use Rattle.gf2.proofs.Packed.{parity-is}
 use Rattle.verdict.specs.Reading.{constant, rowSettled, rowFirst, rowLast}
 use Rattle.reading.specs.Words.{agreeable}
-
--- ---- its coefficients
-
-module _ (c : ℕ) (x : Row) where
-  pub led-here : (k : ℕ) → k < c → getD x k 0 < 2 ^ 64 → (getD x k 0 ≡ 0 → ⊥) → true ≡ led c x
-  led-here k h b n = rw (ne-eqb (lead c x) 0 (λ e. n (no-words c x e k h b))) refl
-
-  pub led-none : ((t : ℕ) → t < c → getD x t 0 ≡ 0) → false ≡ led c x
-  led-none h = rw (eq-eqb (lead c x) 0 (zero-words c x h)) refl
-
--- the words before word k are 0: none, and one more
-pub none-before : (x : Row) (t : ℕ) → t < 0 → getD x t 0 ≡ 0
-none-before x t h = absurd (omega arith)
-
-pub none-more : (x : Row) (k : ℕ) → ((t : ℕ) → t < k → getD x t 0 ≡ 0) → getD x k 0 ≡ 0 → (t : ℕ) → t < k + 1 → getD x t 0 ≡ 0
-none-more x k h e t l = ⊎-elim (λ (q : t ≡ k). ap (λ (i : ℕ). getD x i 0) q ∙ e) (λ (n : t ≡ k → ⊥). h t (omega arith)) (eq-or-ne t k)
 
 -- ---- their sum
 

@@ -4,27 +4,12 @@ ghost use mathlib.Core.Bool.{true};
 ghost use Prim.Native.Nat.{_*_, _≤_, _<_};
 ghost use lib.ListN.{length, replicate};
 ghost use Rattle.bits.specs.Vectors.{bit};
-ghost use Rattle.gf2.specs.System.{led, dot};
+ghost use Rattle.gf2.specs.System.{dot};
 ghost use Rattle.verdict.specs.Reading.{rowSettled, rowFirst, rowLast};
 ghost use Rattle.reading.specs.Words.{agreeable};
 
 // A word of ones.
 const FULL: u64 = 18446744073709551615;
-
-// Whether the row has a coefficient.
-fn led(x: &[u64], c: usize) -> bool
-    requires { ⌜ c ≤ length (now x) ⌝ }
-    ensures { λ r. ⌜ r ≡ led c (now (x .entry)) ⌝ }
-{
-    let mut k = 0;
-    while k < c {
-        if x[k] != 0 {
-            return true;
-        }
-        k += 1;
-    }
-    false
-}
 
 // 1 if the row has an odd number of coefficients, else 0.
 fn odd(x: &[u64], c: usize) -> u8
@@ -61,7 +46,7 @@ pub fn settled(x: &[u64], c: usize) -> u8
     requires { ⌜ c < length (now x) ⌝ }
     ensures { λ r. ⌜ r ≡ rowSettled c (now (x .entry)) ⌝ }
 {
-    if led(x, c) {
+    if gf2::led(x, c) {
         return 2;
     }
     first(x, c)
@@ -72,7 +57,7 @@ pub fn agreeable(x: &[u64], c: usize) -> bool
     requires { ⌜ c < length (now x) ⌝ }
     ensures { λ r. ⌜ r ≡ agreeable c (now (x .entry)) ⌝ }
 {
-    if led(x, c) {
+    if gf2::led(x, c) {
         return true;
     }
     first(x, c) == 0

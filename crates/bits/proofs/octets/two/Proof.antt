@@ -1,7 +1,7 @@
 use borrow.Author.Needs.{needs}
-use Rattle.masks.proofs.Joining.{side-by-side}
-use Rattle.masks.proofs.two.Statement.{statement}
-use Rattle.masks.proofs.two.Tie as tie
+use Rattle.bits.proofs.Joining.{side-by-side}
+use Rattle.bits.proofs.octets.two.Statement.{statement}
+use Rattle.bits.proofs.octets.two.Tie as tie
 
 add-one : tie.Need-add-one
 add-one c = search needs

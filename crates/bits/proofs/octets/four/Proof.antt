@@ -1,7 +1,7 @@
 use borrow.Author.Needs.{needs}
-use Rattle.masks.proofs.Joining.{side-by-side}
-use Rattle.masks.proofs.four.Statement.{statement}
-use Rattle.masks.proofs.four.Tie as tie
+use Rattle.bits.proofs.Joining.{side-by-side}
+use Rattle.bits.proofs.octets.four.Statement.{statement}
+use Rattle.bits.proofs.octets.four.Tie as tie
 
 add-two : tie.Need-add-two
 add-two c = search needs

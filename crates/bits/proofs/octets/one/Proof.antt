@@ -1,7 +1,7 @@
 use native.Mathlib.Omega.{arith}
-use Rattle.masks.proofs.Joining.{one-byte}
-use Rattle.masks.proofs.one.Statement.{statement}
-use Rattle.masks.proofs.one.Tie as tie
+use Rattle.bits.proofs.Joining.{one-byte}
+use Rattle.bits.proofs.octets.one.Statement.{statement}
+use Rattle.bits.proofs.octets.one.Tie as tie
 
 shared-slice-read-result : tie.Need-shared-slice-read-result
 shared-slice-read-result c = omega arith

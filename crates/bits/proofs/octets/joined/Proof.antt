@@ -1,7 +1,7 @@
 use borrow.Author.Needs.{needs}
-use Rattle.masks.proofs.Joining.{side-by-side}
-use Rattle.masks.proofs.eight.Statement.{statement}
-use Rattle.masks.proofs.eight.Tie as tie
+use Rattle.bits.proofs.Joining.{side-by-side}
+use Rattle.bits.proofs.octets.joined.Statement.{statement}
+use Rattle.bits.proofs.octets.joined.Tie as tie
 
 add-four : tie.Need-add-four
 add-four c = search needs
@@ -21,5 +21,5 @@ add-result c = search needs
 returns : tie.Need-returns
 returns c = side-by-side 4 _ _ _ _ (c .before .four .ensures) (c .four2 .ensures)
 
-pub eight-spec : {M : Type 1} → statement M
-eight-spec = tie.close (tie.spec add-four four-requires four-requires-2 mul-result add-result returns)
+pub joined-spec : {M : Type 1} → statement M
+joined-spec = tie.close (tie.spec add-four four-requires four-requires-2 mul-result add-result returns)
