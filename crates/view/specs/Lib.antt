@@ -1,0 +1,2 @@
+-- Viewing: the record of one cartridge within a strip.
+pub mod Viewing
