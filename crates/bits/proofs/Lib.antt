@@ -1,5 +1,5 @@
 -- Xor: XOR of bits and vectors. Tests: tests over lists, tables, searches. Rising: the order of vectors. Words: machine words. WordBits: their bits one by one.
--- RowLaws: rows of words in lists of words. Writing: what the loops of the functions on rows keep. Filling: what a loop keeps that fills a list. Parts: a block by its halves, and the part of a slice from a place on. Joining: words of eight bytes.
+-- RowLaws: rows of words in lists of words. Writing: what the loops of the functions on rows keep. Filling: what a loop keeps that fills a list. Parts: a block by its halves, and the part of a slice from a place on. Joining: words of eight bytes. Records: records of one length, end to end.
 pub mod Xor
 pub mod Tests
 pub mod Rising
@@ -10,3 +10,4 @@ pub mod Writing
 pub mod Filling
 pub mod Parts
 pub mod Joining
+pub mod Records

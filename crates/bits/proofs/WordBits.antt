@@ -1,5 +1,6 @@
 -- The bits of a machine word one by one, at any width: those of a xor, the highest, and all as a vector.
---     hasBit-xor, odd-xor    a bit of a xor; whether a xor has an odd number of 1s in common with a word
+--     hasBit-xor, hasBit-or, odd-xor    a bit of a xor and of an or; whether a xor has an odd number of 1s in common with a word
+--     bit-has, full-bit      a bit as a number; those of a word of ones
 --     bit-top, bit-above     the highest 1, and none above it
 --     leading-bit            the leading zeros say where the highest 1 is
 --     no-bits                a word none of whose bits is 1 is 0
@@ -15,17 +16,17 @@ use mathlib.Core.Logic.{⊎-elim}
 use Prim.Native.Nat.{ℕ, zero, suc, _+_, _*_, _-_, _/_, _%_, _^_, _≤_, _<_}
 use native.Mathlib.Omega.{arith}
 use native.Mathlib.Nat.{zero-add, suc-add, mul-assoc, mul-le-mul-right, pow-suc, div-one, div-div-eq-div-mul, div-eq-of-lt, div-eq-of-lt-le, lt-of-lt-of-le, eq-zero-or-pos}
-use mathlib.Core.Bool.{Bool, true, false, _&&_, true≢false}
+use mathlib.Core.Bool.{Bool, true, false, _&&_, _||_, true≢false}
 use mathlib.Core.List.{List, _∷_, _++_}
-use lib.ListN.{length}
+use lib.ListN.{length, getD, replicate, getD-replicate}
 use lib.Arith.{lt-one}
 use lib.Pow.{pow-pos, pow-mono, pow-add, high, low, field, mod-mod-pow, shr-shr, shl-shr}
-use lib.Bits.{bitAnd, bitXor, and-zero-r}
+use lib.Bits.{bitAnd, bitOr, bitXor, and-zero-r, or-shr, or-mod}
 use lib.Count.{ones, ones-step, leadingZeros, leading-top}
 use lib.Dec.{eqb}
-use Rattle.bits.specs.Vectors.{_⊕_, odd, tab}
-use Rattle.bits.proofs.Tests.{tab-ext, le-or-lt}
-use Rattle.bits.specs.Words.{bitAt, parityOf, hasBit, oddOf, wordBits}
+use Rattle.bits.specs.Vectors.{_⊕_, bit, odd, tab}
+use Rattle.bits.proofs.Tests.{tab-ext, tab-at, le-or-lt}
+use Rattle.bits.specs.Words.{bitAt, parityOf, hasBit, oddOf, wordBits, full}
 use Rattle.bits.proofs.Words.{bit-cases, mod-two, and-half, and-low, parity-of-xor, bit-xor}
 
 -- ---- bits as tests
@@ -44,6 +45,20 @@ one-and p q hp hq =
 
 pub hasBit-xor : (a b j : ℕ) → hasBit (bitXor a b) j ≡ hasBit a j ⊕ hasBit b j
 hasBit-xor a b j = ap (λ (n : ℕ). eqb n 1) (bit-xor a b j) ∙ one-xor (bitAt a j) (bitAt b j) (mod-two (a / 2 ^ j)) (mod-two (b / 2 ^ j))
+
+one-or : (p q : ℕ) → p < 2 → q < 2 → eqb (bitOr p q) 1 ≡ eqb p 1 || eqb q 1
+one-or p q hp hq =
+    bit-cases (λ p. eqb (bitOr p q) 1 ≡ eqb p 1 || eqb q 1)
+    (bit-cases (λ q. eqb (bitOr 0 q) 1 ≡ eqb 0 1 || eqb q 1) refl refl q hq)
+    (bit-cases (λ q. eqb (bitOr 1 q) 1 ≡ eqb 1 1 || eqb q 1) refl refl q hq) p hp
+
+pub hasBit-or : (a b j : ℕ) → hasBit (bitOr a b) j ≡ hasBit a j || hasBit b j
+hasBit-or a b j =
+    ap (λ (n : ℕ). eqb n 1) (ap (λ (n : ℕ). n % 2) (or-shr a b j) ∙ or-mod (a / 2 ^ j) (b / 2 ^ j) 1)
+    ∙ one-or (bitAt a j) (bitAt b j) (mod-two (a / 2 ^ j)) (mod-two (b / 2 ^ j))
+
+pub bit-has : (y j : ℕ) → bit (hasBit y j) ≡ bitAt y j
+bit-has y j = bit-cases (λ q. bit (eqb q 1) ≡ q) refl refl (bitAt y j) (mod-two (y / 2 ^ j))
 
 pub odd-xor : (a b v : ℕ) → oddOf (bitXor a b) v ≡ oddOf a v ⊕ oddOf b v
 odd-xor a b v =
@@ -176,3 +191,12 @@ same-bits (suc n) a b ha hb h =
         bit-cases (λ p. eqb p 1 ≡ eqb q 1 → p ≡ q)
         (bit-cases (λ q. eqb 0 1 ≡ eqb q 1 → 0 ≡ q) (λ e. refl) (λ e. absurd (true≢false (sym e))) q hq)
         (bit-cases (λ q. eqb 1 1 ≡ eqb q 1 → 1 ≡ q) (λ e. absurd (true≢false e)) (λ e. refl) q hq) p hp
+
+-- ---- a word of ones
+
+pub full-bits : wordBits 64 full ≡ replicate 64 true
+unfolding wordBits
+full-bits = refl
+
+pub full-bit : (j : ℕ) → j < 64 → hasBit full j ≡ true
+full-bit j h = sym (tab-at 64 (hasBit full) j false h) ∙ ap (λ (l : List Bool). getD l j false) (sym (wordBits-tab 64 full) ∙ full-bits) ∙ getD-replicate 64 j true false h

@@ -3,6 +3,7 @@
 --     parityOf a b     whether a and b have an odd number of 1s in common
 --     hasBit, oddOf    the same two as tests
 --     wordBits n a     the n lowest bits of a, lowest first
+--     full             a word of 64 ones
 use Prim.Native.Nat.{ℕ, zero, suc, _%_, _/_, _^_}
 use mathlib.Core.Bool.{Bool}
 use mathlib.Core.List.{List, [], _∷_}
@@ -30,3 +31,6 @@ oddOf a b = eqb (parityOf a b) 1
 unfoldable pub wordBits : ℕ → ℕ → List Bool
 wordBits zero a = []
 wordBits (suc n) a = eqb (a % 2) 1 ∷ wordBits n (a / 2)
+
+abbrev pub full : ℕ
+full = 18446744073709551615

@@ -67,7 +67,11 @@ pub fn is_done(a: Answer) -> bool
         Answer::Unique { g: _, m: _ } => false,
         Answer::Ambiguous { g: _, m: _, d: _ } => false,
         Answer::Inconsistent { g: _, m: _ } => false,
-        Answer::LaneInconsistent { lane: _, g: _, m: _ } => false,
+        Answer::LaneInconsistent {
+            lane: _,
+            g: _,
+            m: _,
+        } => false,
         Answer::BadShape => false,
         Answer::BadRecord { place: _ } => false,
         Answer::BadCheck => false,

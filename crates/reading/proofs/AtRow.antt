@@ -12,10 +12,10 @@ use lib.Bits.{bitXor, bitAnd}
 use lib.Count.{ones}
 use lib.Dec.{eqb}
 use Rattle.bits.specs.Vectors.{_⊕_, bit}
-use Rattle.bits.specs.Words.{parityOf, oddOf, wordBits}
+use Rattle.bits.specs.Words.{parityOf, oddOf, wordBits, full}
 use Rattle.bits.specs.Rows.{Row}
 use Rattle.bits.proofs.Words.{bit-cases, mod-two}
-use Rattle.bits.proofs.WordBits.{odd-xor}
+use Rattle.bits.proofs.WordBits.{odd-xor, full-bits}
 use Rattle.gf2.specs.Rows.{hasAt}
 use Rattle.gf2.specs.System.{led, dot, unpack, parity}
 use Rattle.gf2.proofs.Packed.{parity-is}
@@ -23,14 +23,6 @@ use Rattle.verdict.specs.Reading.{constant, rowSettled, rowFirst, rowLast}
 use Rattle.reading.specs.Words.{agreeable}
 
 -- ---- their sum
-
--- a word of ones
-abbrev pub full : ℕ
-full = 18446744073709551615
-
-full-bits : wordBits 64 full ≡ replicate 64 true
-unfolding wordBits
-full-bits = refl
 
 all-ones : (c k : ℕ) → k ≤ c → unpack k (replicate c full) ≡ replicate (64 * k) true
 unfolding unpack

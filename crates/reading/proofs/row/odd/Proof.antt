@@ -2,8 +2,8 @@ use mathlib.Core.Path.{_≡_}
 use Prim.Native.Nat.{_-_, _≤_}
 use native.Mathlib.Omega.{arith}
 use borrow.Author.Needs.{needs}
-use Rattle.bits.specs.Words.{oddOf}
-use Rattle.reading.proofs.AtRow.{full, sum, sum-none, sum-next, sum-all}
+use Rattle.bits.specs.Words.{oddOf, full}
+use Rattle.reading.proofs.AtRow.{sum, sum-none, sum-next, sum-all}
 use Rattle.reading.proofs.row.odd.Statement.{statement}
 use Rattle.reading.proofs.row.odd.Tie as tie
 

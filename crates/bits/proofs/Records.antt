@@ -1,0 +1,47 @@
+-- Records of one length, end to end.
+--     flatten-append, flatten-one, flatten-each     lists made flat: of two lists, of one record, at once or one by one
+--     wide-tab          a table of records of one length
+--     put-record        the next record put behind those before it
+use mathlib.Core.Path.{_≡_, refl, sym, ap, ap₂, _∙_}
+use Prim.Native.Nat.{ℕ, zero, suc, _+_, _-_, _*_}
+use native.Mathlib.Omega.{arith}
+use mathlib.Core.List.{List, [], _∷_, _++_, map, flatten, append-assoc, append-nil}
+use lib.ListN.{length, drop}
+use lib.Seq.{drop-drop}
+use borrow.Rule.Slice.PartMut.{putMid}
+use Rattle.bits.specs.Vectors.{tab}
+use Rattle.bits.specs.Rows.{Wide}
+use Rattle.bits.proofs.Tests.{length-tab, tab-snoc}
+use Rattle.bits.proofs.RowLaws.{length-flatten, put-behind}
+
+pub flatten-append : {A : Type 0} (a b : List (List A)) → flatten (a ++ b) ≡ flatten a ++ flatten b
+unfolding flatten
+flatten-append [] b = refl
+flatten-append {A} (x ∷ a) b = ap (λ (t : List A). x ++ t) (flatten-append a b) ∙ sym (append-assoc x (flatten a) (flatten b))
+
+pub flatten-one : {A : Type 0} (x : List A) → flatten (x ∷ []) ≡ x
+unfolding flatten
+flatten-one x = append-nil x
+
+pub flatten-each : {A B : Type 0} (f : A → List (List B)) (l : List A) → flatten (flatten (map f l)) ≡ flatten (map (λ (a : A). flatten (f a)) l)
+unfolding flatten
+flatten-each f [] = refl
+flatten-each {B = B} f (a ∷ l) = flatten-append (f a) (flatten (map f l)) ∙ ap (λ (t : List B). flatten (f a) ++ t) (flatten-each f l)
+
+pub wide-tab : (w k : ℕ) (f : ℕ → List ℕ) → ((i : ℕ) → length (f i) ≡ w) → Wide w (tab k f)
+wide-tab w zero f h = tt
+wide-tab w (suc k) f h = (h 0, wide-tab w k (λ (i : ℕ). f (suc i)) (λ i. h (suc i)))
+
+module _ (A : ℕ) (f : ℕ → List ℕ) (h : (i : ℕ) → length (f i) ≡ A) (o : List ℕ) where
+  tab-long : (i : ℕ) → length (flatten (tab i f)) ≡ i * A
+  tab-long i = length-flatten A (tab i f) (wide-tab A i f h) ∙ ap (λ (k : ℕ). k * A) (length-tab i f)
+
+  pub put-record : (i : ℕ) (x : List ℕ) → x ≡ f i → putMid (i * A) (i * A + A - i * A) (flatten (tab i f) ++ drop (i * A) o) x ≡ flatten (tab (i + 1) f) ++ drop ((i + 1) * A) o
+  put-record i x e =
+      let k : i * A + A - i * A ≡ A = omega arith in
+      let m : i * A + A ≡ (i + 1) * A = omega arith in
+      put-behind (flatten (tab i f)) (drop (i * A) o) x (i * A) (i * A + A - i * A) (tab-long i)
+      ∙ ap₂ {C = List ℕ} (λ t j. flatten (tab i f) ++ (t ++ drop j (drop (i * A) o))) e k
+      ∙ ap (λ (t : List ℕ). flatten (tab i f) ++ (f i ++ t)) (drop-drop A (i * A) o ∙ ap (λ (j : ℕ). drop j o) m)
+      ∙ sym (append-assoc (flatten (tab i f)) (f i) (drop ((i + 1) * A) o))
+      ∙ ap (λ (t : List ℕ). t ++ drop ((i + 1) * A) o) (sym (ap flatten (tab-snoc i f) ∙ flatten-append (tab i f) (f i ∷ []) ∙ ap (λ (t : List ℕ). flatten (tab i f) ++ t) (flatten-one (f i))))
