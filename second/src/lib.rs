@@ -21,6 +21,7 @@ pub mod requests;
 pub mod rng;
 pub mod sheet;
 pub mod show;
+pub mod strip_lot;
 pub mod strips;
 pub mod system;
 pub mod words;
