@@ -21,7 +21,7 @@ use std::process::ExitCode;
 const USAGE: &str = "usage:
   second vectors DIR            write DIR/stdin and DIR/stdout, the requests and their answers
   second compare DIR            make both again and compare them with the files byte by byte
-  second answer                 answer the requests on standard input
+  second answer                 answer the requests on standard input, ops 0 to 5, 7, 8 and 15
   second pace CALL N LOST COUNT LAYOUT
                                 write so many requests to measure by: CALL is check_sheet, encode or
                                 decode, of words that lost so many symbols; LAYOUT is new or old

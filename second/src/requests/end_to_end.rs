@@ -84,7 +84,8 @@ fn code(rng: &mut Rng, n: usize, r: usize) -> Code {
     }
 }
 
-/// None, one and several strips that differ, sound ones behind spoilt ones, of every check length.
+/// None, one and several strips that differ, sound ones behind spoilt ones, of every check length; one
+/// sound strip has lost most.
 fn several() -> Vec<Request> {
     let mut rng = Rng::new(860);
     let mut list = Vec::new();
@@ -100,11 +101,14 @@ fn several() -> Vec<Request> {
             match n {
                 0..5 => {}
                 5 => kinds = vec![kinds[3]],
-                _ => kinds = vec![kinds[r.div_ceil(6)]],
+                _ => kinds = vec![kinds[[0, 3, 0][r / 5]]],
             }
             for spoilt in kinds {
                 let code = code(&mut rng, n, r);
-                let losses = rng.below(4);
+                let losses = match spoilt {
+                    [false] => 7,
+                    _ => rng.below(4),
+                };
                 let lost = marks(&mut rng, 1 << n, losses);
                 let input = input(&mut rng, &code, &lost, spoilt);
                 let ceiling = rng.pick(&[255, 255, 255, 1 << n.min(7) >> 2]);

@@ -151,11 +151,14 @@ fn refusal_sets() -> Vec<Request> {
             low.ceiling = rng.below(most.min(LARGEST_CEILING + 1)) as u16;
             let mut high = low.clone();
             let above = LARGEST_CEILING as u16 + 1;
-            high.ceiling = match n {
-                0..LONG => rng.pick(&[above, above, above + 1, 511, 65535]),
+            high.ceiling = match set.is_empty() {
+                false if n < LONG => rng.pick(&[above, above, above + 1, 511, 65535]),
                 _ => above,
             };
-            if !set.contains(&19) && (n <= LONG || (n, set.len()) == (LARGEST_EXPONENT, 0)) {
+            if n <= LONG || (n, set.len()) == (LARGEST_EXPONENT, 0) {
+                // with no free position there is no g
+                let mut set = set.clone();
+                set.retain(|&code| code != 19);
                 list.push(put(&mut rng, low, &set));
             }
             list.push(put(&mut rng, high, &set));
@@ -169,7 +172,8 @@ fn alone() -> Vec<Request> {
     let mut rng = Rng::new(801);
     let mut list = Vec::new();
     for n in 0..LONG {
-        for set in faults::singles() {
+        let rounds = if n < 2 { 4 } else { 1 };
+        for set in (0..rounds).flat_map(|_| faults::singles()) {
             let r = rng.pick(&CHECKS);
             let code = Code::any(&mut rng, n, suited(n, r));
             let request = good(&mut rng, &code);
@@ -345,12 +349,14 @@ fn too_many_unknowns() -> Vec<Request> {
     vec![repair(&mut rng, &code, strip, vec![1; 1 << n])]
 }
 
-/// The small codes with every pattern of losses: sound strips, and strips of any bits.
+/// The small codes with every pattern of losses, of four cartridges every third: sound strips, and
+/// strips of any bits.
 fn small_codes() -> Vec<Request> {
     let mut rng = Rng::new(807);
     let mut list = Vec::new();
     for code in Code::small() {
-        for lost in every_word(code.length(), 2) {
+        let patterns = every_word(code.length(), 2).into_iter();
+        for lost in patterns.step_by(if code.n < 2 { 1 } else { 3 }) {
             let strip = match rng.below(3) {
                 0 => any_bytes(&mut rng, CARTRIDGE_BYTES << code.n),
                 _ => sound(&mut rng, &code),
@@ -407,7 +413,7 @@ fn sound_strips() -> Vec<Request> {
         }
     }
     // nothing lost, and all
-    for (n, mark) in [(5, 0), (5, 1), (6, 0), (6, 1), (LONG, 0)] {
+    for (n, mark) in [(5, 0), (5, 1), (6, 0), (6, 1)] {
         let code = Code::weighted(&mut rng, n, 11, 1 << (n - 1));
         let strip = sound(&mut rng, &code);
         list.push(repair(&mut rng, &code, strip, vec![mark; 1 << n]));
@@ -542,7 +548,7 @@ fn borders_of_unknowns() -> Vec<Request> {
         (8, 0, 191, 1, 191),
         (8, 6, 192, 1, 192),
         (9, 11, 64, 2, 64),
-        (9, 6, 192, 0, 192),
+        (9, 6, 192, 1, 192),
         (9, 11, 255, 0, LARGEST_CEILING),
     ] {
         // the losses and the code of a sound word
