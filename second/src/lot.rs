@@ -1,7 +1,7 @@
 // The sample lots: polar codes over 128 and over 512 cartridges with dynamic frozen bits, a choice,
 // and the words of a short test log: one symbol of every record stands on each cartridge, so that a
-// lost cartridge is the same place in every record. And the first one's sheet in the old layout.
-// Each folder explains itself by its README.
+// lost cartridge is the same place in every record. And the first one's sheet in the old layout; the
+// sample strips have a module of their own. Each folder explains itself by its README.
 
 use crate::calls::{answer_records, ANSWER_BYTES};
 use crate::code::ERASED;

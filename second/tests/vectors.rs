@@ -1565,14 +1565,16 @@ fn strips_reach_what_they_must() {
     }
 }
 
+/// Sheet, marks, and the strip with zeros in its lost records.
+type Read<'a> = (&'a [u8], &'a [u8], Vec<u8>);
+
 #[test]
 fn strips_are_held_to_their_borders() {
     let mut lengths = BTreeSet::new();
     let mut bad_marks = BTreeSet::new();
     let mut rooms = BTreeSet::new();
     let mut ceilings = BTreeSet::new();
-    let mut garbage: BTreeMap<(&[u8], &[u8], Vec<u8>), BTreeMap<&[u8], &Answered>> =
-        BTreeMap::new();
+    let mut garbage: BTreeMap<Read, BTreeMap<&[u8], &Answered>> = BTreeMap::new();
     for answered in answered(7) {
         let (request, answer, _) = answered;
         let (n, length) = (request.n, 1 << request.n.min(MOST));
@@ -1608,8 +1610,9 @@ fn strips_are_held_to_their_borders() {
         }
         if answer.code < 2 && request.c.contains(&1) {
             let mut read = request.b.clone();
-            for (record, mark) in read.chunks_mut(64).zip(&request.c) {
-                record.fill(if *mark == 1 { 0 } else { record[0] });
+            for (record, _) in (read.chunks_mut(64).zip(&request.c)).filter(|(_, &mark)| mark == 1)
+            {
+                record.fill(0);
             }
             let same = garbage.entry((&request.a, &request.c, read)).or_default();
             same.insert(&request.b, answered);

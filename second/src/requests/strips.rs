@@ -7,8 +7,9 @@ use super::parts::{choices, few_choices, first_middle_last, room, suited, Code, 
 use super::unknowns::{self, count, Case};
 use crate::calls;
 use crate::code::ERASED;
+use crate::layout::NEW;
 use crate::limits::{CARTRIDGE_BYTES, LANES, LARGEST_CEILING, LARGEST_EXPONENT};
-use crate::make::{every_word, MISREADINGS, STYLES};
+use crate::make::{every_word, spoil, Fault, MISREADINGS, STYLES};
 use crate::protocol::Request;
 use crate::rng::Rng;
 use crate::words::{any_bytes, put_garbage, turn_over, Codewords};
@@ -172,24 +173,22 @@ fn alone() -> Vec<Request> {
     let mut rng = Rng::new(801);
     let mut list = Vec::new();
     for n in 0..LONG {
-        let rounds = if n < 2 { 4 } else { 1 };
-        for set in (0..rounds).flat_map(|_| faults::singles()) {
+        for set in faults::singles() {
             let r = rng.pick(&CHECKS);
             let code = Code::any(&mut rng, n, suited(n, r));
-            let request = good(&mut rng, &code);
-            list.push(match set[..] {
-                // not by far
-                [14] => {
-                    let mut request = request;
-                    request.b.pop();
-                    request
+            let mut request = good(&mut rng, &code);
+            // such as bring no other along
+            match set[..] {
+                [11] => request.a.push(0),
+                [12] => {
+                    let i = rng.below(1 << n);
+                    spoil(&mut rng, NEW, &mut request.a, i, Fault::ByteTwo);
                 }
-                [16] => Request {
-                    o: request.o - 1,
-                    ..request
-                },
-                _ => put(&mut rng, request, &set),
-            });
+                [14] => request.b.truncate(request.b.len() - 1),
+                [16] => request.o -= 1,
+                _ => request = put(&mut rng, request, &set),
+            }
+            list.push(request);
         }
     }
     list
