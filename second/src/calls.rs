@@ -1,12 +1,18 @@
-// The six calls: each gives its five numbers and fills its output buffer, or leaves it as found.
+// The calls: each gives its five numbers and fills its output buffer, or leaves it as found.
 // Checks run in the order 11, 12, 19, 13, 14 .. 18 and the first that applies is given. The
-// converter uses the old 11 and 12, and 16.
+// converter uses the old 11 and 12, and 16. The view of a strip has no numbers: it is empty where
+// there is none.
 
 use crate::answer::Answer;
-use crate::code::{checked_sequence, filled, free_bits, keeps, remainder, transform, Agreeing};
+use crate::code::{
+    checked_sequence, filled, free_bits, keeps, remainder, transform, Agreeing, ERASED,
+};
 use crate::layout::{NEW, OLD};
-use crate::limits::{HEADER_BYTES, LARGEST_CEILING, LARGEST_EXPONENT, RECORD_BYTES, STRIP_BYTES};
+use crate::limits::{
+    CARTRIDGE_BYTES, HEADER_BYTES, LARGEST_CEILING, LARGEST_EXPONENT, RECORD_BYTES, STRIP_BYTES,
+};
 use crate::sheet::Sheet;
+use crate::strips::{self, Repaired};
 use crate::{brute, dense, open};
 
 /// Bytes of one answer record of the stream.
@@ -53,6 +59,18 @@ fn open_positions(word: &[u8]) -> Vec<bool> {
         assert_eq!(found, brute::open_positions(word), "open positions");
     }
     found
+}
+
+/// g and m of a word, or 17 for a ceiling above the largest, 18 for g above the ceiling.
+fn counts(sheet: &Sheet, r: usize, ceiling: usize, word: &[u8]) -> Result<(usize, usize), Answer> {
+    if ceiling > LARGEST_CEILING {
+        return Err(Answer::code(17));
+    }
+    let (g, m) = open::counts(sheet, r, &open_positions(word));
+    if g > ceiling {
+        return Err(Answer::counted(18, g, 0, 0));
+    }
+    Ok((g, m))
 }
 
 /// Whether the sheet is good, with its check length.
@@ -112,13 +130,7 @@ fn decoded(
     let length = sheet.length();
     form(word, length, 2)?;
     room(out, 3 * length)?;
-    if ceiling > LARGEST_CEILING {
-        return Err(Answer::code(17));
-    }
-    let (g, m) = open::counts(&sheet, r, &open_positions(word));
-    if g > ceiling {
-        return Err(Answer::counted(18, g, 0, 0));
-    }
+    let (g, m) = counts(&sheet, r, ceiling, word)?;
     let Some(found) = agreeing(&sheet, r, word) else {
         return Ok(Answer::counted(2, g, m, 0));
     };
@@ -152,13 +164,19 @@ fn payload_read(
     Ok(Answer::code(0))
 }
 
+/// The five numbers of an answer, two bytes each, low first; then zeros.
+pub fn header(answer: Answer) -> Vec<u8> {
+    let mut header = vec![0; HEADER_BYTES];
+    for (bytes, number) in header.chunks_mut(2).zip(answer.numbers()) {
+        bytes.copy_from_slice(&number.to_le_bytes());
+    }
+    header
+}
+
 /// One answer record of the stream: the numbers, then three strips padded with 255.
 /// `strips` holds the output of decoding, or nothing where it was left untouched.
 pub fn answer_record(answer: Answer, strips: &[u8], length: usize) -> Vec<u8> {
-    let mut record = vec![0; HEADER_BYTES];
-    for (bytes, number) in record.chunks_mut(2).zip(answer.numbers()) {
-        bytes.copy_from_slice(&number.to_le_bytes());
-    }
+    let mut record = header(answer);
     record.resize(ANSWER_BYTES, 255);
     let places = record[HEADER_BYTES..].chunks_mut(STRIP_BYTES);
     for (place, strip) in places.zip(strips.chunks(length)) {
@@ -216,4 +234,123 @@ fn converted(n: usize, old: &[u8], out: &mut [u8]) -> Result<Answer, Answer> {
     room(out, sheet.len())?;
     out[..sheet.len()].copy_from_slice(&sheet);
     Ok(Answer::code(0))
+}
+
+/// The bytes that a repaired strip of N cartridges takes: their records, then their marks.
+pub fn repaired_bytes(length: usize) -> usize {
+    (CARTRIDGE_BYTES + 1) * length
+}
+
+/// Repairs every lane of a strip: writes the settled cartridges, zeros for each other, and marks
+/// these. The records of lost cartridges are not looked at.
+pub fn repair(
+    n: usize,
+    sheet: &[u8],
+    r: usize,
+    ceiling: usize,
+    strip: &[u8],
+    lost: &[u8],
+    out: &mut [u8],
+) -> Answer {
+    strip_repaired(n, sheet, r, ceiling, strip, lost, out).unwrap_or_else(|refusal| refusal)
+}
+
+fn strip_repaired(
+    n: usize,
+    sheet: &[u8],
+    r: usize,
+    ceiling: usize,
+    strip: &[u8],
+    lost: &[u8],
+    out: &mut [u8],
+) -> Result<Answer, Answer> {
+    let sheet = Sheet::read(n, sheet, r)?;
+    let length = sheet.length();
+    if strip.len() != CARTRIDGE_BYTES * length {
+        return Err(Answer::code(14));
+    }
+    form(lost, length, 1)?;
+    room(out, repaired_bytes(length))?;
+    // the losses of every lane
+    let word: Vec<u8> = lost.iter().map(|&mark| ERASED * mark).collect();
+    let (g, m) = counts(&sheet, r, ceiling, &word)?;
+    match strips::repaired(&sheet, r, strip, lost) {
+        Ok(found) => {
+            put_repaired(out, &found);
+            let code = if found.d == 0 { 0 } else { 1 };
+            Ok(Answer::counted(code, g, m, found.d))
+        }
+        Err(lane) => Ok(Answer {
+            place: lane as u16,
+            ..Answer::counted(2, g, m, 0)
+        }),
+    }
+}
+
+/// Writes the records, zeros for each cartridge that is not settled, and its mark.
+fn put_repaired(out: &mut [u8], found: &Repaired) {
+    let (records, marks) = out.split_at_mut(CARTRIDGE_BYTES * found.records.len());
+    let places = records.chunks_mut(CARTRIDGE_BYTES).zip(marks);
+    for ((place, mark), record) in places.zip(&found.records) {
+        match record {
+            Some(record) => place.copy_from_slice(record),
+            None => place.fill(0),
+        }
+        *mark = u8::from(record.is_none());
+    }
+}
+
+/// The record of one cartridge within a strip of N = 2^n; empty where there is none.
+pub fn view(n: usize, strip: &[u8], position: usize) -> &[u8] {
+    if n > LARGEST_EXPONENT || position >= 1 << n || strip.len() != CARTRIDGE_BYTES << n {
+        return &[];
+    }
+    &strip[CARTRIDGE_BYTES * position..][..CARTRIDGE_BYTES]
+}
+
+/// What strips end to end are answered with: a record of numbers for each strip, and what repairing
+/// leaves of a buffer full of 255.
+#[derive(Clone, Debug, Default, PartialEq, Eq)]
+pub struct Strips {
+    pub records: Vec<u8>,
+    pub repaired: Vec<u8>,
+}
+
+/// The answers to strips end to end, the cut-off last one too.
+pub fn strip_answers(sheet: &[u8], choice: &[u8], lost: &[u8], input: &[u8]) -> Strips {
+    let mut answers = Strips::default();
+    let (n, r, ceiling) = match stream_numbers(sheet, choice) {
+        Ok(numbers) => numbers,
+        Err(code) => {
+            answers.records = header(Answer::code(code));
+            return answers;
+        }
+    };
+    for strip in input.chunks(CARTRIDGE_BYTES << n) {
+        let mut out = vec![255; repaired_bytes(1 << n)];
+        let answer = repair(n, sheet, r, ceiling, strip, lost, &mut out);
+        answers.records.extend(header(answer));
+        answers.repaired.extend(out);
+    }
+    answers
+}
+
+/// Repairs strips end to end into two buffers; 16 before all else where either is too short.
+pub fn repair_strips(
+    sheet: &[u8],
+    choice: &[u8],
+    lost: &[u8],
+    input: &[u8],
+    repaired: &mut [u8],
+    records: &mut [u8],
+) -> Answer {
+    let answers = strip_answers(sheet, choice, lost, input);
+    let parts = [(records, answers.records), (repaired, answers.repaired)];
+    if let Some(refusal) = (parts.iter()).find_map(|(out, bytes)| room(out, bytes.len()).err()) {
+        return refusal;
+    }
+    for (out, bytes) in parts {
+        out[..bytes.len()].copy_from_slice(&bytes);
+    }
+    Answer::code(0)
 }

@@ -27,21 +27,30 @@ fn check_equations(sheet: &Sheet, r: usize) -> Vec<(Vec<bool>, bool)> {
     equations
 }
 
-/// The system of a word, or nothing where its equations contradict each other.
-fn system(sheet: &Sheet, r: usize, word: &[u8]) -> Option<System> {
+/// The equations of a sheet, each over the bits of u with its value: every frozen rule, then the
+/// check.
+pub fn sheet_equations(sheet: &Sheet, r: usize) -> Vec<(Vec<bool>, bool)> {
     let length = sheet.length();
-    let mut system = System::new(length);
-    let mut consistent = true;
+    let mut equations = Vec::new();
     for (i, record) in sheet.records.iter().enumerate() {
         if record.frozen {
             let mut unknowns = unit(length, i);
             for &j in &record.named {
                 unknowns[j] = true;
             }
-            consistent &= system.add(&unknowns, record.constant);
+            equations.push((unknowns, record.constant));
         }
     }
-    for (unknowns, value) in check_equations(sheet, r) {
+    equations.extend(check_equations(sheet, r));
+    equations
+}
+
+/// The system of a word, or nothing where its equations contradict each other.
+fn system(sheet: &Sheet, r: usize, word: &[u8]) -> Option<System> {
+    let length = sheet.length();
+    let mut system = System::new(length);
+    let mut consistent = true;
+    for (unknowns, value) in sheet_equations(sheet, r) {
         consistent &= system.add(&unknowns, value);
     }
     for (j, &value) in word.iter().enumerate() {

@@ -19,6 +19,12 @@ pub const STRIP_BYTES: usize = 512;
 /// Bytes in front of the strips in an answer record of the stream.
 pub const HEADER_BYTES: usize = 16;
 
+/// Bytes of a cartridge's record in a whole strip; lane t is bit t mod 8 of byte t div 8.
+pub const CARTRIDGE_BYTES: usize = 64;
+
+/// The lanes of a strip.
+pub const LANES: usize = 8 * CARTRIDGE_BYTES;
+
 /// How many ones stand in front of the free bits when the check polynomial divides: r of them.
 pub fn leading_ones(r: usize) -> usize {
     r

@@ -1,7 +1,7 @@
 // The sample lots: polar codes over 128 and over 512 cartridges with dynamic frozen bits, a choice,
 // and the words of a short test log: one symbol of every record stands on each cartridge, so that a
-// lost cartridge is the same place in every record. And the first one's sheet in the old layout.
-// Each folder explains itself by its README.
+// lost cartridge is the same place in every record. And the first one's sheet in the old layout; the
+// sample strips have a module of their own. Each folder explains itself by its README.
 
 use crate::calls::{answer_records, ANSWER_BYTES};
 use crate::code::ERASED;
@@ -11,6 +11,7 @@ use crate::make::bytes;
 use crate::rng::Rng;
 use crate::sheet::{Record, Sheet};
 use crate::show::{self, refusal, show, verdict, Options};
+use crate::strip_lot::SampleStrips;
 use crate::words::Codewords;
 
 /// What a lot is made from.
@@ -34,7 +35,7 @@ pub struct Plan {
 
 /// Which positions are free.
 #[derive(Clone, Copy, Debug, PartialEq, Eq)]
-enum Positions {
+pub enum Positions {
     /// Those that are best where half of the symbols are lost: few are open.
     Best,
     /// Any: many are open, and the frozen ones have to tie them.
@@ -151,21 +152,19 @@ fn unknown(z: f64, n: usize) -> Vec<f64> {
     [unknown(2.0 * z - z * z, n - 1), unknown(z * z, n - 1)].concat()
 }
 
-/// For each position, whether it is free.
-fn free_positions(rng: &mut Rng, plan: &Plan) -> Vec<bool> {
-    let length = 1 << plan.exponent;
-    let order = match plan.positions {
+/// For each of 2^n positions, whether it is one of the free ones.
+fn free_positions(rng: &mut Rng, n: usize, free: usize, positions: Positions) -> Vec<bool> {
+    let length = 1 << n;
+    let order = match positions {
         Positions::Best => {
-            let unknown = unknown(0.5, plan.exponent);
+            let unknown = unknown(0.5, n);
             let mut best: Vec<usize> = (0..length).collect();
             best.sort_by(|&i, &j| unknown[i].total_cmp(&unknown[j]));
             best
         }
         Positions::Drawn => rng.order(length),
     };
-    (0..length)
-        .map(|i| order[..plan.free].contains(&i))
-        .collect()
+    (0..length).map(|i| order[..free].contains(&i)).collect()
 }
 
 /// A frozen record: plain while no free position stands before it, and then one time in five;
@@ -188,8 +187,9 @@ fn frozen_record(rng: &mut Rng, before: &[bool]) -> Record {
     }
 }
 
-fn sheet(rng: &mut Rng, plan: &Plan) -> Vec<u8> {
-    let free = free_positions(rng, plan);
+/// A sheet of 2^n positions with so many free ones.
+pub fn sheet(rng: &mut Rng, n: usize, free: usize, positions: Positions) -> Vec<u8> {
+    let free = free_positions(rng, n, free, positions);
     let records: Vec<Record> = (0..free.len())
         .map(|i| match free[i] {
             true => Record::default(),
@@ -219,7 +219,7 @@ fn high_first(byte: u8, count: usize) -> Vec<u8> {
 impl Lot {
     pub fn make(plan: Plan) -> Lot {
         let mut rng = Rng::new(plan.seed);
-        let sheet = sheet(&mut rng, &plan);
+        let sheet = sheet(&mut rng, plan.exponent, plan.free, plan.positions);
         let mut lot = Lot {
             order: rng.order(1 << plan.exponent),
             choice: vec![plan.check as u8, plan.ceiling as u8],
@@ -314,28 +314,6 @@ impl Lot {
         }
     }
 
-    /// The lost cartridges, rising.
-    fn lost(&self) -> String {
-        let mut lost = self.order[..self.plan.lost].to_vec();
-        lost.sort();
-        let lost: Vec<String> = lost.iter().map(usize::to_string).collect();
-        lost.join(", ")
-    }
-
-    /// What kinds of record the sheet holds, in words.
-    fn kinds(&self) -> String {
-        let sheet = self.read();
-        let frozen: Vec<&Record> = sheet.records.iter().filter(|r| r.frozen).collect();
-        let plain = frozen.iter().filter(|r| r.named.is_empty()).count();
-        let ones = frozen.iter().filter(|r| r.constant).count();
-        format!(
-            "{} positions free, {plain} plain frozen, {} frozen by earlier positions; \
-             {ones} of the frozen have the constant 1",
-            sheet.k(),
-            frozen.len() - plain,
-        )
-    }
-
     fn readme(&self) -> String {
         let answers = self.answers();
         let rows: String = (answers.chunks(ANSWER_BYTES).enumerate())
@@ -387,10 +365,31 @@ These files are made by `second lots` and held by `second compare-lots`.
             count = self.plan.lost,
             cartridges = self.cartridges(),
             records = self.words.len(),
-            kinds = self.kinds(),
-            lost = self.lost(),
+            kinds = kinds(&self.read()),
+            lost = rising(&self.order[..self.plan.lost], ", "),
         )
     }
+}
+
+/// Positions, rising, with this between them.
+pub fn rising(positions: &[usize], between: &str) -> String {
+    let mut positions = positions.to_vec();
+    positions.sort();
+    let positions: Vec<String> = positions.iter().map(usize::to_string).collect();
+    positions.join(between)
+}
+
+/// What kinds of record a sheet holds, in words.
+pub fn kinds(sheet: &Sheet) -> String {
+    let frozen: Vec<&Record> = sheet.records.iter().filter(|r| r.frozen).collect();
+    let plain = frozen.iter().filter(|r| r.named.is_empty()).count();
+    let ones = frozen.iter().filter(|r| r.constant).count();
+    format!(
+        "{} positions free, {plain} plain frozen, {} frozen by earlier positions; \
+         {ones} of the frozen have the constant 1",
+        sheet.k(),
+        frozen.len() - plain,
+    )
 }
 
 /// A row of the table: the verdict with its counts, or the refusal with its reason.
@@ -417,6 +416,7 @@ pub fn files() -> Vec<File> {
     let mut files: Vec<File> = lots.iter().flat_map(Lot::files).collect();
     files.push(File::new("old", "sheet.bin", lots[0].old_sheet()));
     files.push(File::new("old", "README.md", OLD_README.into()));
+    files.extend(SampleStrips::make().files());
     files
 }
 

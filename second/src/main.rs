@@ -21,7 +21,7 @@ use std::process::ExitCode;
 const USAGE: &str = "usage:
   second vectors DIR            write DIR/stdin and DIR/stdout, the requests and their answers
   second compare DIR            make both again and compare them with the files byte by byte
-  second answer                 answer the requests on standard input
+  second answer                 answer the requests on standard input, ops 0 to 5, 7, 8 and 15
   second pace CALL N LOST COUNT LAYOUT
                                 write so many requests to measure by: CALL is check_sheet, encode or
                                 decode, of words that lost so many symbols; LAYOUT is new or old
@@ -31,10 +31,16 @@ const USAGE: &str = "usage:
                                 words that they answer, and the folder of their sheet, also places
   second lines                  print what each of them says alone, as soon as it is read
   second words DIR COUNT SEED   write so many damaged words of DIR/sheet.bin and DIR/choice.bin
+  second repair DIR MARKS RECORDS
+                                repair the strips on standard input, end to end, by DIR/sheet.bin and
+                                DIR/choice.bin; MARKS is a file with a byte for each cartridge, 1 where
+                                it is lost; the answer records go to the file RECORDS
+  second strips DIR MARKS COUNT SEED
+                                write so many strips of DIR/sheet.bin and DIR/choice.bin, end to end
   second sheet n r SEED         write a good sheet of 2 to the n positions, drawn for check length r
-  second lots EXAMPLES          write the sample lots and an old sheet, each in its folder
+  second lots EXAMPLES          write the sample lots, an old sheet and strips, each in its folder
   second compare-lots EXAMPLES  make them again and compare
-  second programs CRATES        write what recover, show and convert read and must write
+  second programs CRATES        write what recover, show, convert and repair read and must write
   second compare-programs CRATES
                                 make it again and compare
 ";
@@ -179,6 +185,19 @@ fn stream(dir: &Path) -> io::Result<()> {
     io::stdout().write_all(&calls::answer_records(&sheet, &choice, &words))
 }
 
+/// Repairs the strips on standard input; does not read them where one record answers all.
+fn repair(dir: &Path, marks: &str, records: &str) -> io::Result<()> {
+    let [sheet, choice] = ["sheet.bin", "choice.bin"].map(|name| file_or_empty(dir, name));
+    let lost = std::fs::read(marks).unwrap_or_default();
+    let strips = match calls::stream_numbers(&sheet, &choice) {
+        Ok(_) => input(),
+        Err(_) => Vec::new(),
+    };
+    let answers = calls::strip_answers(&sheet, &choice, &lost, &strips);
+    std::fs::write(records, &answers.records)?;
+    io::stdout().write_all(&answers.repaired)
+}
+
 /// What show is asked for; none where that is not understood. Words need a lot and a lot words.
 fn show_options(mut arguments: &[&str]) -> io::Result<Option<Options>> {
     let mut options = Options::default();
@@ -227,20 +246,47 @@ fn lines() -> io::Result<()> {
     Ok(())
 }
 
-/// Writes so many damaged words of a folder's sheet.
-fn words(dir: &Path, count: &str, seed: &str) -> io::Result<()> {
-    let number = |text: &str| text.parse::<u64>().map_err(io::Error::other);
-    let refused = |code| io::Error::other(format!("refused {code}"));
-    let (count, mut rng) = (number(count)?, Rng::new(number(seed)?));
+fn refused(code: u16) -> io::Error {
+    io::Error::other(format!("refused {code}"))
+}
+
+/// The codewords of a folder's sheet, and N.
+fn codewords(dir: &Path) -> io::Result<(Codewords, usize)> {
     let sheet = std::fs::read(dir.join("sheet.bin"))?;
     let choice = std::fs::read(dir.join("choice.bin"))?;
     let (n, r, _) = calls::stream_numbers(&sheet, &choice).map_err(refused)?;
     let codewords = Codewords::new(n, &sheet, r).map_err(|answer| refused(answer.code))?;
+    Ok((codewords, 1 << n))
+}
+
+/// Writes what is drawn so many times.
+fn draw(count: &str, seed: &str, mut next: impl FnMut(&mut Rng) -> Vec<u8>) -> io::Result<()> {
+    let number = |text: &str| text.parse::<u64>().map_err(io::Error::other);
+    let (count, mut rng) = (number(count)?, Rng::new(number(seed)?));
     let mut out = io::BufWriter::new(io::stdout().lock());
     for _ in 0..count {
-        out.write_all(&codewords.damaged(&mut rng))?;
+        out.write_all(&next(&mut rng))?;
     }
     out.flush()
+}
+
+/// Writes so many damaged words of a folder's sheet.
+fn words(dir: &Path, count: &str, seed: &str) -> io::Result<()> {
+    let (codewords, _) = codewords(dir)?;
+    draw(count, seed, |rng| codewords.damaged(rng))
+}
+
+/// Writes so many strips of a folder's sheet, damaged where the marks say and some in one bit more.
+fn strips(dir: &Path, marks: &str, count: &str, seed: &str) -> io::Result<()> {
+    let (codewords, length) = codewords(dir)?;
+    let lost = std::fs::read(marks)?;
+    if lost.len() != length {
+        return Err(refused(14));
+    }
+    if lost.iter().any(|&mark| mark > 1) {
+        return Err(refused(15));
+    }
+    draw(count, seed, |rng| codewords.damaged_strip(rng, &lost))
 }
 
 /// Writes a good sheet whose free positions are those of the most ones, half of all but for the check.
@@ -313,6 +359,8 @@ fn run(arguments: &[&str]) -> io::Result<ExitCode> {
         },
         ["lines"] => lines()?,
         ["words", dir, count, seed] => words(Path::new(dir), count, seed)?,
+        ["repair", dir, marks, records] => repair(Path::new(dir), marks, records)?,
+        ["strips", dir, marks, count, seed] => strips(Path::new(dir), marks, count, seed)?,
         ["sheet", n, r, seed] => sheet(n, r, seed)?,
         ["lots", dir] => print!("{}", write_files(Path::new(dir), &lot::files())?),
         ["compare-lots", dir] => return Ok(outcome(compare_files(Path::new(dir), &lot::files()))),

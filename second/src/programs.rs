@@ -1,16 +1,20 @@
 // What the programs are held to: for each, its standard input, the files it reads, and what it must
 // write. `recover` answers a stream of words; `show` says what each answer record means; `convert` turns an
-// old sheet into one of today's layout.
+// old sheet into one of today's layout; `repair` repairs strips.
 
 use crate::answer::Answer;
-use crate::calls::{answer_record, answer_records};
+use crate::calls::{answer_record, answer_records, strip_answers};
 use crate::files::File;
 use crate::layout::NEW;
-use crate::limits::{HEADER_BYTES, LARGEST_CEILING, LARGEST_EXPONENT, RECORD_BYTES, STRIP_BYTES};
+use crate::limits::{
+    CARTRIDGE_BYTES, HEADER_BYTES, LARGEST_CEILING, LARGEST_EXPONENT, RECORD_BYTES, STRIP_BYTES,
+};
 use crate::lot::{Lot, LONG, LOT};
 use crate::make::{any_codeword, bits, damaged, good, spoil, Fault, STYLES};
+use crate::requests::Code;
 use crate::rng::Rng;
 use crate::show::lines;
+use crate::words::Codewords;
 
 /// Their files, by their names under the folder of the crates.
 pub fn files() -> Vec<File> {
@@ -19,7 +23,7 @@ pub fn files() -> Vec<File> {
     let answers = answer_records(&lot.sheet, &lot.choice, &words);
     let records = show_input(&lot, &long);
     let text = lines(&records).into_bytes();
-    vec![
+    let mut files = vec![
         File::new("convert", "stdin", lot.old_sheet()),
         File::new("convert", "stdout", lot.sheet.clone()),
         File::new("recover", "data/sheet.bin", lot.sheet),
@@ -28,6 +32,44 @@ pub fn files() -> Vec<File> {
         File::new("recover", "stdout", answers),
         File::new("show", "stdin", records),
         File::new("show", "stdout", text),
+    ];
+    files.extend(repair_files());
+    files
+}
+
+/// Strips on 16 cartridges, of which some are lost and can be told, and others cannot: many drawn at
+/// random, about one in eight with a bit turned over, and a cut-off one.
+fn repair_files() -> Vec<File> {
+    let mut rng = Rng::new(530);
+    let (n, r) = (4, 6);
+    let sheet = Code::weighted(&mut rng, n, r, 10).sheet;
+    let choice = vec![r as u8, 20];
+    let codewords = Codewords::new(n, &sheet, r).expect("a good sheet");
+    let lost = loop {
+        let order = rng.order(1 << n);
+        let lost: Vec<u8> = (0..1 << n)
+            .map(|j| u8::from(order[..9].contains(&j)))
+            .collect();
+        let answers = strip_answers(&sheet, &choice, &lost, &codewords.strip(&mut rng));
+        let unsettled = answers.repaired.iter().skip(CARTRIDGE_BYTES << n);
+        // two to six of the nine
+        if (2..=6).contains(&unsettled.filter(|&&mark| mark == 1).count()) {
+            break lost;
+        }
+    };
+    let mut strips = Vec::new();
+    for _ in 0..40 {
+        strips.extend(codewords.damaged_strip(&mut rng, &lost));
+    }
+    strips.extend(&codewords.damaged_strip(&mut rng, &lost)[..700]);
+    let answers = strip_answers(&sheet, &choice, &lost, &strips);
+    vec![
+        File::new("repair", "args", b"lost.bin\n/dev/null\n".to_vec()),
+        File::new("repair", "data/sheet.bin", sheet),
+        File::new("repair", "data/choice.bin", choice),
+        File::new("repair", "data/lost.bin", lost),
+        File::new("repair", "stdin", strips),
+        File::new("repair", "stdout", answers.repaired),
     ]
 }
 

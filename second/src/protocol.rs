@@ -14,8 +14,9 @@ pub const OUTPUT_ROOM: usize = 140_000;
 /// What every byte of the output buffer holds before the call.
 pub const BEFORE: u8 = 165;
 
-/// The ops: check_sheet, encode, decode, read_back, stream, convert.
-pub const OPS: u16 = 6;
+/// The ops: check_sheet, encode, decode, read_back, stream, convert; repair, view; strips end to
+/// end. Any other ends the run.
+pub const OPS: [u16; 9] = [0, 1, 2, 3, 4, 5, 7, 8, 15];
 
 #[derive(Clone, Debug, Default, PartialEq, Eq)]
 pub struct Request {
@@ -23,11 +24,12 @@ pub struct Request {
     pub n: u16,
     pub r: u16,
     pub ceiling: u16,
-    /// The sheet, today's or, for convert, an old one.
+    /// The sheet, today's or, for convert, an old one; for a view the strip.
     pub a: Vec<u8>,
-    /// The payload, word or input.
+    /// The payload, word, input, strip or strips.
     pub b: Vec<u8>,
-    /// The choice.
+    /// The choice, the marks of the lost cartridges, or for strips end to end the choice, n bytes of
+    /// it, and then the marks.
     pub c: Vec<u8>,
     /// The length of the output buffer.
     pub o: usize,
@@ -77,7 +79,7 @@ impl Request {
             take_length(from, INPUT_ROOM)?,
             take_length(from, OUTPUT_ROOM)?,
         ];
-        (op < OPS).then_some(Request {
+        OPS.contains(&op).then_some(Request {
             op,
             n,
             r,
@@ -100,9 +102,32 @@ impl Request {
             3 => calls::read_back(n, &self.a, r, &self.b, &mut out),
             4 => calls::stream(&self.a, &self.c, &self.b, &mut out),
             5 => calls::convert(n, &self.a, &mut out),
+            7 => calls::repair(n, &self.a, r, ceiling, &self.b, &self.c, &mut out),
+            8 => self.view(&mut out),
+            15 => self.repair_strips(&mut out),
             op => panic!("no op {op}"),
         };
         (answer, out)
+    }
+
+    /// Op 8: r is the position. The place says how many bytes the view has; as many as there is room
+    /// for go to the start of the output.
+    fn view(&self, out: &mut [u8]) -> Answer {
+        let view = calls::view(self.n.into(), &self.a, self.r.into());
+        for (byte, &value) in out.iter_mut().zip(view) {
+            *byte = value;
+        }
+        Answer::at(0, view.len())
+    }
+
+    /// Op 15: n says how many bytes of c are the choice, the others are the marks; r says how many
+    /// bytes of the output are the buffer for the records, the others are that for the repaired
+    /// strips.
+    fn repair_strips(&self, out: &mut [u8]) -> Answer {
+        let choice_bytes = self.c.len().min(self.n.into());
+        let (choice, lost) = self.c.split_at(choice_bytes);
+        let (records, repaired) = out.split_at_mut(self.o.min(self.r.into()));
+        calls::repair_strips(&self.a, choice, lost, &self.b, repaired, records)
     }
 }
 

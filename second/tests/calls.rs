@@ -1,4 +1,4 @@
-// The five calls: what was written reads back, and every refusal comes in its fixed order with
+// The calls of words: what was written reads back, and every refusal comes in its fixed order with
 // the output as found.
 
 mod common;

@@ -1,7 +1,9 @@
-// The commands as they are run: stream, show, lines, sheet, words, pace, and the comparisons.
+// The commands as they are run: stream, show, lines, sheet, words, repair, strips, pace, and the
+// comparisons.
 
 mod common;
 use common::{folder, lone, record, sheet_e, symbols};
+use second::calls;
 use second::layout::{NEW, OLD};
 use second::limits::RECORD_BYTES;
 use second::protocol::Request;
@@ -196,6 +198,67 @@ fn words_are_the_same_again() {
     assert_eq!(refused.stderr, b"second: refused 19\n");
 }
 
+#[test]
+fn strips_are_drawn_and_repaired() {
+    let dir = folder("strips");
+    written(&["lots", dir.to_str().unwrap()], &[]);
+    let sample = dir.join("strips");
+    let [marks, records] = ["lost.bin", "records"].map(|name| sample.join(name));
+    let [path, marks, records] = [&sample, &marks, &records].map(|path| path.to_str().unwrap());
+    let strips = written(&["strips", path, marks, "20", "7"], &[]);
+    assert_eq!(strips.len(), 20 * 2048);
+    assert_eq!(strips, written(&["strips", path, marks, "20", "7"], &[]));
+    assert_ne!(strips, written(&["strips", path, marks, "20", "8"], &[]));
+    assert_eq!(
+        strips[..4096],
+        written(&["strips", path, marks, "2", "7"], &[])
+    );
+    let [sheet, choice, lost] = ["sheet.bin", "choice.bin", "lost.bin"]
+        .map(|name| std::fs::read(sample.join(name)).unwrap());
+    let answers = calls::strip_answers(&sheet, &choice, &lost, &strips[..5000]);
+    let repaired = written(&["repair", path, marks, records], &strips[..5000]);
+    assert_eq!(repaired, answers.repaired);
+    assert_eq!(std::fs::read(records).unwrap(), answers.records);
+    assert_eq!(repaired.len(), 3 * 65 * 32);
+    // no strip, no record; no marks, and each strip is refused
+    assert_eq!(written(&["repair", path, marks, records], &[]), []);
+    assert_eq!(std::fs::read(records).unwrap(), []);
+    let none = written(&["repair", path, "no-such-file", records], &strips[..2049]);
+    assert_eq!(none, [255; 2 * 65 * 32]);
+    assert_eq!(std::fs::read(records).unwrap(), lone(14)[..16].repeat(2));
+    // marks that are none
+    for (bytes, said) in [(&[0; 31][..], "14"), (&[2; 32], "15")] {
+        std::fs::write(marks, bytes).unwrap();
+        let refused = run(&["strips", path, marks, "2", "7"], &[]);
+        assert_eq!(refused.status.code(), Some(1));
+        let said = format!("second: refused {said}\n");
+        assert_eq!(refused.stderr, said.into_bytes());
+    }
+    assert_eq!(run(&["repair", path, marks], &[]).status.code(), Some(2));
+}
+
+#[test]
+fn one_record_where_the_strips_are_not_read() {
+    let sheet = sheet_e();
+    for (name, sheet, choice, code) in [
+        ("strips-no-sheet", None, Some(&[0, 63][..]), 11),
+        ("strips-short-sheet", Some(&sheet[1..]), Some(&[0, 63]), 11),
+        ("strips-no-choice", Some(&sheet), None, 13),
+        ("strips-long-choice", Some(&sheet), Some(&[0, 63, 0]), 13),
+    ] {
+        let dir = stream_folder(name, sheet, choice);
+        let records = dir.join("records");
+        let [dir, path] = [&dir, &records].map(|path| path.to_str().unwrap());
+        let mut child = command(&["repair", dir, "none", path]).spawn().unwrap();
+        // the input stays open until the answer is there
+        let input = child.stdin.take();
+        let output = child.wait_with_output().unwrap();
+        drop(input);
+        assert!(output.status.success() && output.stdout.is_empty());
+        assert_eq!(std::fs::read(&records).unwrap(), lone(code)[..16], "{name}");
+    }
+}
+
 /// The requests that a command wrote, all of them.
 fn requests(mut bytes: &[u8]) -> Vec<Request> {
     let list = std::iter::from_fn(|| Request::read(&mut bytes)).collect();
@@ -270,12 +333,17 @@ fn a_wrong_or_missing_file_fails_the_comparison() {
         (
             "lots",
             "compare-lots",
-            &["lot/words.bin", "long/README.md", "old/sheet.bin"][..],
+            &[
+                "lot/words.bin",
+                "long/README.md",
+                "old/sheet.bin",
+                "strips/strips.bin",
+            ][..],
         ),
         (
             "programs",
             "compare-programs",
-            &["show/stdout", "convert/stdout"],
+            &["show/stdout", "convert/stdout", "repair/stdout"],
         ),
     ] {
         let dir = folder(make);

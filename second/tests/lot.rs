@@ -7,12 +7,13 @@ use second::calls::{self, answer_records, ANSWER_BYTES};
 use second::code::free_bits;
 use second::files::{compare, write, File};
 use second::layout::OLD;
-use second::limits::{HEADER_BYTES, RECORD_BYTES, STRIP_BYTES};
+use second::limits::{CARTRIDGE_BYTES, HEADER_BYTES, LANES, RECORD_BYTES, STRIP_BYTES};
 use second::lot::{self, Lot, LONG, LOT};
 use second::make::bits;
 use second::programs;
 use second::rng::Rng;
 use second::sheet::Sheet;
+use second::strip_lot::SampleStrips;
 use second::words::Codewords;
 use std::collections::{BTreeMap, BTreeSet};
 
@@ -154,7 +155,15 @@ fn the_readmes_say_what_the_answers_say() {
         ["sheet.bin", "choice.bin", "words.bin", "README.md"].map(|name| format!("{folder}/{name}"))
     });
     assert_eq!(names[..8], of_lots.concat());
-    assert_eq!(names[8..], ["old/sheet.bin", "old/README.md"]);
+    assert_eq!(names[8..10], ["old/sheet.bin", "old/README.md"]);
+    let of_strips = [
+        "sheet.bin",
+        "choice.bin",
+        "lost.bin",
+        "strips.bin",
+        "README.md",
+    ];
+    assert_eq!(names[10..], of_strips.map(|name| format!("strips/{name}")));
     for (plan, readme) in [(LOT, 3), (LONG, 7)] {
         let lot = Lot::make(plan);
         let readme = std::str::from_utf8(&files[readme].bytes).unwrap();
@@ -303,6 +312,114 @@ fn the_programs_are_held_to_every_code() {
     assert_eq!(file("convert/stdin").len(), OLD.record_bytes() << 7);
     assert_eq!(file("convert/stdout"), &Lot::make(LOT).sheet);
     assert_eq!(file("recover/data/sheet.bin"), &Lot::make(LOT).sheet);
+}
+
+#[test]
+fn the_program_repair_is_held_to_sound_spoilt_and_cut_off_strips() {
+    let files = programs::files();
+    let file = |name: &str| {
+        let name = format!("repair/{name}");
+        &files.iter().find(|file| file.name == name).unwrap().bytes
+    };
+    assert_eq!(file("args"), b"lost.bin\n/dev/null\n");
+    let (sheet, choice) = (file("data/sheet.bin"), file("data/choice.bin"));
+    let (lost, strips, repaired) = (file("data/lost.bin"), file("stdin"), file("stdout"));
+    let (size, part) = (16 * CARTRIDGE_BYTES, 16 * (CARTRIDGE_BYTES + 1));
+    let count = strips.len().div_ceil(size);
+    assert!(count > 16 && !strips.len().is_multiple_of(size));
+    assert_eq!((lost.len(), repaired.len()), (16, part * count));
+    let mut codes = BTreeMap::new();
+    for (strip, theirs) in strips.chunks(size).zip(repaired.chunks(part)) {
+        let mut out = vec![255; part];
+        let (r, ceiling) = (choice[0].into(), choice[1].into());
+        let answer = calls::repair(4, sheet, r, ceiling, strip, lost, &mut out);
+        assert_eq!(out, theirs);
+        *codes.entry(answer.code).or_insert(0) += 1;
+        if answer.code == 1 {
+            // of the lost cartridges some are settled and some are not
+            let marks = &out[size..];
+            let both = [0, 1].map(|mark| (0..16).any(|j| lost[j] == 1 && marks[j] == mark));
+            assert!(answer.g > 0 && both == [true; 2]);
+        }
+    }
+    assert_eq!(codes.keys().copied().collect::<Vec<u16>>(), [1, 2, 14]);
+    assert!(codes[&1] > 16 && codes[&2] > 2 && codes[&14] == 1);
+    let different: BTreeSet<&[u8]> = repaired.chunks(part).collect();
+    assert!(different.len() > codes[&1]);
+}
+
+#[test]
+fn the_sample_strips_are_what_their_readme_says() {
+    let sample = SampleStrips::make();
+    let sheet = Sheet::read(5, &sample.sheet, 6).unwrap();
+    assert_eq!((sheet.k(), &sample.choice[..]), (20, &[6, 20][..]));
+    let size = 32 * CARTRIDGE_BYTES;
+    assert_eq!(sample.strips.len(), 5 * size + 1000);
+    let (lost, more) = (sample.lost(), sample.more_lost());
+    let list = |marks: &[u8]| (0..32).filter(|&j| marks[j] == 1).collect::<Vec<usize>>();
+    assert_eq!((list(&lost).len(), list(&more).len()), (11, 15));
+    assert!(list(&lost).iter().all(|&j| more[j] == 1));
+    let numbers = |marks: &[u8]| -> Vec<[u16; 5]> {
+        let records = sample.answers(marks).records;
+        records.chunks(HEADER_BYTES).map(numbers_of).collect()
+    };
+    let [unique, spoilt, cut_off] = [[0, 0, 2, 9, 0], [2, 77, 2, 9, 0], [14, 0, 0, 0, 0]];
+    let whole = [unique, unique, unique, spoilt, unique, cut_off];
+    assert_eq!(numbers(&lost), whole);
+    let [ambiguous, spoilt] = [[1, 0, 5, 8, 1], [2, 77, 5, 8, 0]];
+    let of_more = [ambiguous, ambiguous, ambiguous, spoilt, ambiguous, cut_off];
+    assert_eq!(numbers(&more), of_more);
+    let unsettled = [10, 12, 18, 22, 28, 30];
+    assert_eq!(sample.unsettled(&more), unsettled);
+    assert!(sample.unsettled(&lost).is_empty());
+    // every lane of a repaired strip is a codeword
+    let repaired = sample.answers(&lost).repaired;
+    for t in (0..LANES).step_by(37) {
+        let word = repaired[..size].chunks(CARTRIDGE_BYTES);
+        let word: Vec<u8> = word.map(|record| record[t / 8] >> (t % 8) & 1).collect();
+        let mut payload = vec![BEFORE; 14];
+        let answer = calls::read_back(5, &sample.sheet, 6, &word, &mut payload);
+        assert_eq!(answer, Answer::code(0));
+    }
+    let files = sample.files();
+    assert_eq!((&files[2].bytes, &files[3].bytes), (&lost, &sample.strips));
+    let readme = std::str::from_utf8(&files[4].bytes).unwrap();
+    let [lost, more, unsettled] = [&list(&lost)[..], &list(&more), &unsettled]
+        .map(|list| list.iter().map(usize::to_string).collect::<Vec<_>>());
+    for text in [
+        format!("lost 11 cartridges: {}.", lost.join(", ")),
+        format!("bin/repair examples/strips {} <", more.join(" ")),
+        format!("are not settled: {}.", unsettled.join(", ")),
+        "| 1 | nothing more | unique |  | 2 | 9 | 0 |".to_string(),
+        "| inconsistent | 77 | 2 | 9 | 0 |".to_string(),
+        "| 5 | nothing more | ambiguous |  | 5 | 8 | 1 |".to_string(),
+        "| refused 14: the strip is cut off |".to_string(),
+    ] {
+        assert!(readme.contains(&text), "{text}");
+    }
+}
+
+#[test]
+fn drawn_strips_are_the_same_again_and_some_are_spoilt() {
+    let sample = SampleStrips::make();
+    let codewords = Codewords::new(5, &sample.sheet, 6).ok().unwrap();
+    let lost = sample.lost();
+    let draw = |seed, count| -> Vec<u8> {
+        let mut rng = Rng::new(seed);
+        let strips = (0..count).map(|_| codewords.damaged_strip(&mut rng, &lost));
+        strips.collect::<Vec<_>>().concat()
+    };
+    let strips = draw(1, 80);
+    assert_eq!(strips, draw(1, 80));
+    assert_ne!(strips, draw(2, 80));
+    let answers = calls::strip_answers(&sample.sheet, &sample.choice, &lost, &strips);
+    let codes = answers
+        .records
+        .chunks(HEADER_BYTES)
+        .map(|r| numbers_of(r)[0]);
+    let spoilt = codes.clone().filter(|&code| code == 2).count();
+    assert!((3..20).contains(&spoilt), "{spoilt}");
+    assert_eq!(codes.filter(|&code| code == 0).count(), 80 - spoilt);
 }
 
 #[test]

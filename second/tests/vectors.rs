@@ -6,7 +6,10 @@ use second::answer::{Answer, OF_CODEC, OF_SHEET, ORDER};
 use second::calls::{stream_numbers, ANSWER_BYTES};
 use second::code::{free_bits, keeps};
 use second::layout::{NEW, OLD};
-use second::limits::{LARGEST_CEILING, LARGEST_EXPONENT, MASK_BYTES, RECORD_BYTES};
+use second::limits::{
+    CARTRIDGE_BYTES, HEADER_BYTES, LANES, LARGEST_CEILING, LARGEST_EXPONENT, MASK_BYTES,
+    RECORD_BYTES,
+};
 use second::make::{codeword, word_of, Misreading, MISREADINGS};
 use second::protocol::{write_answer, Request};
 use second::requests;
@@ -57,8 +60,9 @@ fn old_sheet_e() -> Vec<u8> {
     OLD.write(&NEW.read(3, &sheet_e()).unwrap().records)
 }
 
-/// A request of each op that works; the stream is of two words.
+/// A request of each op that works; the stream is of two words, the strips are one.
 fn one_of_each() -> Vec<Request> {
+    let strip = vec![0; 8 * CARTRIDGE_BYTES];
     let inputs = ["", "1000", "21111000", "01111000", "011110002", ""];
     let codes = (0..6).zip(inputs).map(|(op, input)| Request {
         op,
@@ -70,7 +74,21 @@ fn one_of_each() -> Vec<Request> {
         c: if op == 4 { vec![0, 63] } else { Vec::new() },
         o: 2 * ANSWER_BYTES + 8,
     });
-    codes.collect()
+    let of_strips = [(7, 3, 0), (8, 3, 7), (15, 2, 16)].map(|(op, n, r)| Request {
+        op,
+        n,
+        r,
+        ceiling: 63,
+        a: if op == 8 { strip.clone() } else { sheet_e() },
+        b: if op == 8 { Vec::new() } else { strip.clone() },
+        c: match op {
+            7 => vec![0; 8],
+            8 => Vec::new(),
+            _ => [&[0, 63][..], &[0; 8]].concat(),
+        },
+        o: 2 * ANSWER_BYTES + 8,
+    });
+    codes.chain(of_strips).collect()
 }
 
 #[test]
@@ -83,7 +101,9 @@ fn each_op_makes_its_call() {
             out.iter().take_while(|&&byte| byte != 165).count()
         })
         .collect();
-    assert_eq!(written, [0, 8, 24, 4, 2 * ANSWER_BYTES, 8 * RECORD_BYTES]);
+    let of_words = [0, 8, 24, 4, 2 * ANSWER_BYTES, 8 * RECORD_BYTES];
+    assert_eq!(written[..6], of_words);
+    assert_eq!(written[6..], [65 * 8, 64, 16 + 65 * 8]);
 }
 
 #[test]
@@ -98,7 +118,7 @@ fn requests_are_read_until_the_run_ends() {
         read
     };
     assert_eq!(read(&input), list);
-    assert_eq!(read(&input[..input.len() - 1]), list[..5], "cut off");
+    assert_eq!(read(&input[..input.len() - 1]), list[..8], "cut off");
     let ended = |change: fn(&mut Request), ends: bool| {
         let mut other = list[0].clone();
         change(&mut other);
@@ -115,6 +135,12 @@ fn requests_are_read_until_the_run_ends() {
     ended(|request| request.o = 140_000, false);
     ended(|request| request.o = 140_001, true);
     ended(|request| request.op = 6, true);
+    ended(|request| request.op = 7, false);
+    ended(|request| request.op = 8, false);
+    ended(|request| request.op = 9, true);
+    ended(|request| request.op = 14, true);
+    ended(|request| request.op = 15, false);
+    ended(|request| request.op = 16, true);
 }
 
 /// The rules that record i of N breaks, each by a number of its own.
@@ -141,7 +167,7 @@ type Answered = (Request, Answer, Vec<u8>);
 
 /// Every request of an op, made and answered once.
 fn answered(op: u16) -> &'static [Answered] {
-    static ALL: [OnceLock<Vec<Answered>>; 6] = [const { OnceLock::new() }; 6];
+    static ALL: [OnceLock<Vec<Answered>>; 16] = [const { OnceLock::new() }; 16];
     ALL[usize::from(op)].get_or_init(|| {
         let list = requests::of(op).into_iter();
         list.map(|request| {
@@ -204,8 +230,10 @@ fn every_list_has_its_size() {
         sizes.push(size);
         counts.push(list.len());
     }
-    assert!(sizes.iter().sum::<usize>() <= 29_000_000, "{sizes:?}");
-    let least = [3_500, 1_400, 6_000, 1_800, 450, 1_000];
+    assert!(sizes.iter().sum::<usize>() <= 35_000_000, "{sizes:?}");
+    let of_strips: usize = sizes[6..].iter().sum();
+    assert!(of_strips <= 6_000_000, "{sizes:?}");
+    let least = [3_500, 1_400, 6_000, 1_800, 450, 1_000, 1_500, 230, 480];
     assert!(
         counts
             .iter()
@@ -302,9 +330,16 @@ fn all_frozen(request: &Request) -> bool {
     !kinds.is_empty() && kinds.iter().all(|&kind| kind == 1)
 }
 
-/// g, an unread or bad symbol counted as read.
+/// g, an unread or bad symbol counted as read, and so an unread or bad mark of a strip.
 fn unknowns(request: &Request) -> usize {
-    let mut word = request.b.clone();
+    let mut word = match request.op {
+        7 => request
+            .c
+            .iter()
+            .map(|&m| if m == 1 { 2 } else { 0 })
+            .collect(),
+        _ => request.b.clone(),
+    };
     word.resize(length_of(request), 0);
     let open = open::open_positions(&word);
     let kinds = kinds_of(request);
@@ -326,11 +361,14 @@ fn applying(request: &Request) -> Vec<u16> {
         let others = [0, 6, 11].into_iter().filter(|&r| suits(r));
         others.map(|r| k - r).collect()
     };
-    let (lengths, rooms, largest) = match request.op {
-        1 => (payloads, vec![length], 1),
-        2 => (vec![length], vec![3 * length], 2),
-        _ => (vec![length], payloads, 1),
+    let (lengths, rooms, symbols, largest) = match request.op {
+        1 => (payloads, vec![length], &request.b, 1),
+        2 => (vec![length], vec![3 * length], &request.b, 2),
+        7 => (vec![length], vec![65 * length], &request.c, 1),
+        _ => (vec![length], payloads, &request.b, 1),
     };
+    let wrong_strip = request.op == 7 && request.b.len() != 64 * length;
+    let counts = [2, 7].contains(&request.op);
     let bad_record = (request.a.chunks_exact(RECORD_BYTES).enumerate())
         .any(|(i, record)| !broken(i, length, record).is_empty());
     let ceiling = usize::from(request.ceiling);
@@ -339,11 +377,11 @@ fn applying(request: &Request) -> Vec<u16> {
         bad_record,
         all_frozen(request),
         !suits(r),
-        request.op > 0 && !lengths.contains(&request.b.len()),
-        request.op > 0 && request.b.iter().any(|&symbol| symbol > largest),
+        request.op > 0 && (!lengths.contains(&symbols.len()) || wrong_strip),
+        request.op > 0 && symbols.iter().any(|&symbol| symbol > largest),
         request.op > 0 && rooms.iter().all(|&needed| request.o < needed),
-        request.op == 2 && ceiling > LARGEST_CEILING,
-        request.op == 2 && unknowns(request) > ceiling,
+        counts && ceiling > LARGEST_CEILING,
+        counts && unknowns(request) > ceiling,
     ];
     (ORDER.into_iter().zip(conditions))
         .filter(|&(_, applies)| applies)
@@ -372,7 +410,11 @@ fn hold_refusals(op: u16, count: usize, seen: fn(u16, u16, u16) -> Option<bool>)
     }
     for n in 0..=MOST {
         for (at, &first) in ORDER[..count].iter().enumerate() {
-            let held = exponents().contains(&n);
+            // strips of long codes: what is not about the sheet; in the longest 17 comes with 18
+            let held = match op {
+                7 => n < LONG || (at >= OF_SHEET && (n, first) != (MOST, 17)),
+                _ => exponents().contains(&n),
+            };
             assert!(
                 !held || alone.contains(&(n, first)),
                 "op {op}, n {n}: {first}"
@@ -404,6 +446,12 @@ fn every_refusal_in_its_order() {
     hold_refusals(2, ORDER.len(), |n, first, later| match (n, first, later) {
         (..MOST, 17, 18) | (0, 15, 18) | (_, 19, 18) => Some(false),
         (_, _, 18) if !exponents().contains(&n) => None,
+        _ => Some(true),
+    });
+    // the same of the marks of a strip
+    hold_refusals(7, ORDER.len(), |n, first, later| match (n, first, later) {
+        (..MOST, 17, 18) | (0, 15, 18) | (_, 19, 18) => Some(false),
+        (8, _, 18) | (MOST, 11 | 12, 18) => None,
         _ => Some(true),
     });
 }
@@ -1404,5 +1452,371 @@ fn streams_of_sheets_with_no_free_position() {
     for n in [7, 9] {
         assert!(records.contains(&(n, 19, 3, false)) && records.contains(&(n, 12, 3, false)));
         assert!(checks.contains(&(n, 19, true)) && checks.contains(&(n, 19, false)));
+    }
+}
+
+/// The lanes at the edges of bytes and of words of 64 bits.
+const TELLING_LANES: [u16; 14] = [0, 1, 7, 8, 9, 63, 64, 65, 127, 128, 255, 256, 448, 511];
+
+#[test]
+fn strips_reach_what_they_must() {
+    let mut codes = BTreeSet::new();
+    let mut checked = BTreeSet::new();
+    let mut lanes = BTreeSet::new();
+    let mut kinds = BTreeSet::new();
+    let mut unknowns = BTreeSet::new();
+    let mut losses = BTreeSet::new();
+    for (request, answer, out) in answered(7) {
+        let (n, length) = (request.n % 64, length_of(request));
+        codes.insert((n, answer.code));
+        let written = if answer.code < 2 { 65 * length } else { 0 };
+        assert!(out[written..].iter().all(|&byte| byte == 165));
+        let lost = request.c.iter().filter(|&&mark| mark == 1).count();
+        match answer.code {
+            2 => {
+                assert_eq!(answer.d, 0);
+                lanes.insert((n, answer.place));
+            }
+            18 => assert_eq!(answer, &Answer::counted(18, answer.g.into(), 0, 0)),
+            12 | 15 => assert_eq!(answer, &Answer::at(answer.code, answer.place.into())),
+            11.. => assert_eq!(answer, &Answer::code(answer.code)),
+            _ => {}
+        }
+        if answer.code > 2 {
+            continue;
+        }
+        checked.insert((n, request.r, answer.code));
+        unknowns.insert((n, answer.g, answer.code));
+        if answer.code == 2 {
+            continue;
+        }
+        losses.insert((n, lost == 0, lost == length));
+        assert_eq!((answer.place, answer.code == 0), (0, answer.d == 0));
+        let (records, marks) = out.split_at(64 * length);
+        assert_eq!(answer.code == 1, marks[..length].contains(&1));
+        for (j, record) in records.chunks(64).enumerate() {
+            let theirs = &request.b[64 * j..][..64];
+            match (request.c[j], marks[j]) {
+                (0, mark) => assert!(mark == 0 && record == theirs),
+                (_, 0) => {
+                    // what a lost record held is not what it is filled with
+                    kinds.insert((n, "settled"));
+                    kinds.extend((record != theirs).then_some((n, "garbage")));
+                }
+                (_, mark) => {
+                    assert!(mark == 1 && record == [0; 64]);
+                    kinds.insert((n, "unsettled"));
+                }
+            }
+        }
+    }
+    for n in 0..=MOST {
+        for code in [0, 1, 2].into_iter().chain(ORDER) {
+            // one symbol has no rule to break
+            let possible = (n, code) != (0, 2);
+            assert_eq!(codes.contains(&(n, code)), possible, "n {n}, {code}");
+            for r in [0, 6, 11].into_iter().filter(|&r| code < 3 && r < 1 << n) {
+                assert!(
+                    n > 5 || !possible || checked.contains(&(n, r, code)),
+                    "n {n}, r {r}, {code}"
+                );
+            }
+        }
+        for kind in ["settled", "garbage", "unsettled"] {
+            // the one symbol is free
+            let possible = n > 0 || kind == "unsettled";
+            assert_eq!(kinds.contains(&(n, kind)), possible, "n {n}: {kind}");
+        }
+        for lane in TELLING_LANES {
+            assert!(
+                ![1, 2, 3].contains(&n) || lanes.contains(&(n, lane)),
+                "n {n}, lane {lane}"
+            );
+        }
+        assert!(
+            n > 6 || losses.contains(&(n, true, false)),
+            "n {n}: nothing lost"
+        );
+        assert!(
+            n > 6 || losses.contains(&(n, false, true)),
+            "n {n}: all lost"
+        );
+    }
+    for lane in [0, 7, 8, 63, 64, 511] {
+        assert!((4..=5).any(|n| lanes.contains(&(n, lane))), "lane {lane}");
+    }
+    assert!((6..=MOST).any(|n| lanes.range((n, 320)..(n, LANES as u16)).next().is_some()));
+    for (n, g) in [
+        (7, 63),
+        (7, 64),
+        (7, 65),
+        (8, 127),
+        (8, 128),
+        (8, 191),
+        (8, 192),
+    ] {
+        assert!(
+            (0..3).any(|code| unknowns.contains(&(n, g, code))),
+            "n {n}, g {g}"
+        );
+    }
+    for (g, code) in [(64, 2), (192, 1), (255, 0)] {
+        assert!(unknowns.contains(&(MOST, g, code)), "g {g}");
+    }
+}
+
+/// Sheet, marks, and the strip with zeros in its lost records.
+type Read<'a> = (&'a [u8], &'a [u8], Vec<u8>);
+
+#[test]
+fn strips_are_held_to_their_borders() {
+    let mut lengths = BTreeSet::new();
+    let mut bad_marks = BTreeSet::new();
+    let mut rooms = BTreeSet::new();
+    let mut ceilings = BTreeSet::new();
+    let mut garbage: BTreeMap<Read, BTreeMap<&[u8], &Answered>> = BTreeMap::new();
+    for answered in answered(7) {
+        let (request, answer, _) = answered;
+        let (n, length) = (request.n, 1 << request.n.min(MOST));
+        let off = |bytes: usize, right: usize| bytes as isize - right as isize;
+        let ceiling = request.ceiling as isize;
+        match answer.code {
+            14 => {
+                let offs = (
+                    off(request.b.len(), 64 * length),
+                    off(request.c.len(), length),
+                );
+                lengths.insert((n, offs.0, offs.1));
+            }
+            15 => {
+                bad_marks.insert((n, answer.place, request.c[usize::from(answer.place)]));
+            }
+            16 => {
+                rooms.insert((n, off(request.o, 65 * length)));
+            }
+            17 => {
+                ceilings.insert((n, "largest", ceiling - LARGEST_CEILING as isize));
+            }
+            0 | 1 | 2 | 18 => {
+                let about_g = ceiling - answer.g as isize;
+                ceilings.insert((n, "g", about_g));
+                assert_eq!(about_g < 0, answer.code == 18);
+                if answer.code != 18 {
+                    rooms.insert((n, off(request.o, 65 * length)));
+                    ceilings.insert((n, "largest", ceiling - LARGEST_CEILING as isize));
+                }
+            }
+            _ => {}
+        }
+        if answer.code < 2 && request.c.contains(&1) {
+            let mut read = request.b.clone();
+            for (record, _) in (read.chunks_mut(64).zip(&request.c)).filter(|(_, &mark)| mark == 1)
+            {
+                record.fill(0);
+            }
+            let same = garbage.entry((&request.a, &request.c, read)).or_default();
+            same.insert(&request.b, answered);
+        }
+    }
+    for n in 0..=MOST {
+        let last = (1 << n) - 1;
+        let each = n < 6;
+        for offs in [(-1, 0), (1, 0), (0, -1), (0, 1)] {
+            assert!(
+                !each || lengths.contains(&(n, offs.0, offs.1)),
+                "n {n}, {offs:?}"
+            );
+        }
+        let one_off =
+            |&(m, strip, marks): &(u16, isize, isize)| m == n && strip.abs() + marks.abs() == 1;
+        assert!(lengths.iter().any(one_off), "n {n}");
+        for place in [0, (1 << n) / 2, last] {
+            for value in [2, 255] {
+                assert!(
+                    !each || bad_marks.contains(&(n, place, value)),
+                    "n {n}, {place}"
+                );
+            }
+        }
+        assert!(bad_marks.contains(&(n, last, 2)), "n {n}");
+        for off in [-1, 0, 1] {
+            assert!(
+                (n > LONG && off == 1) || rooms.contains(&(n, off)),
+                "n {n}, room {off}"
+            );
+        }
+        assert!(ceilings.contains(&(n, "largest", 1)), "n {n}");
+        assert!(ceilings.contains(&(n, "largest", 0)), "n {n}");
+        for about in [-1, 0, 1] {
+            assert!(
+                !each || ceilings.contains(&(n, "g", about)),
+                "n {n}, {about}"
+            );
+        }
+    }
+    // strips that differ in what lost records hold are repaired to the same bytes
+    let mut seen = BTreeSet::new();
+    for same in garbage.values().filter(|same| same.len() >= 4) {
+        let outs: BTreeSet<&[u8]> = (same.values())
+            .map(|(request, _, out)| &out[..65 * length_of(request)])
+            .collect();
+        let answers: BTreeSet<[u16; 5]> = same.values().map(|found| found.1.numbers()).collect();
+        let (request, ..) = same.values().next().unwrap();
+        if outs.len() == 1 && answers.len() == 1 {
+            seen.insert(request.n);
+        }
+    }
+    assert!((0..6).all(|n| seen.contains(&n)), "{seen:?}");
+}
+
+#[test]
+fn views_reach_what_they_must() {
+    let mut positions = BTreeSet::new();
+    let mut outputs = BTreeSet::new();
+    let mut lengths = BTreeSet::new();
+    let mut large = BTreeSet::new();
+    for (request, answer, out) in answered(8) {
+        let (n, position) = (request.n, usize::from(request.r));
+        let right = n <= MOST && request.a.len() == 64 << n && position < 1 << n;
+        let size = if right { 64 } else { 0 };
+        assert_eq!(answer, &Answer::at(0, size));
+        let shown = size.min(out.len());
+        assert!(out[shown..].iter().all(|&byte| byte == 165));
+        if n > MOST {
+            large.insert(n);
+            continue;
+        }
+        let off = request.a.len() as isize - (64 << n) as isize;
+        lengths.insert((n, off));
+        if off == 0 {
+            positions.insert((n, position));
+            outputs.insert((n, right, request.o));
+        }
+        if right {
+            assert_eq!(out[..shown], request.a[64 * position..][..shown]);
+            assert!(request
+                .a
+                .iter()
+                .any(|&byte| byte != request.a[64 * position]));
+        }
+    }
+    for n in 0..=MOST {
+        for position in [0, (1 << n) - 1, 1 << n] {
+            assert!(positions.contains(&(n, position)), "n {n}, {position}");
+        }
+        assert!(
+            lengths.contains(&(n, -1)) && (n > 7 || lengths.contains(&(n, 1))),
+            "n {n}"
+        );
+        assert!(
+            outputs.contains(&(n, true, 64)) && outputs.contains(&(n, false, 64)),
+            "n {n}"
+        );
+        assert!(n > 7 || outputs.contains(&(n, true, 63)), "n {n}");
+        for o in [0, 1, 63, 65] {
+            let both = [true, false].map(|right| outputs.contains(&(n, right, o)));
+            assert!(n > 4 || both == [true; 2], "n {n}, o {o}");
+        }
+    }
+    for n in [10, 64, 255, 256, 65535] {
+        assert!(large.contains(&n), "{n}");
+    }
+}
+
+#[test]
+fn strips_end_to_end_reach_what_they_must() {
+    let mut records = BTreeSet::new();
+    let mut rooms = BTreeSet::new();
+    let mut counts = BTreeSet::new();
+    let mut rests = BTreeSet::new();
+    let mut after_spoilt = BTreeSet::new();
+    let mut one_record = BTreeSet::new();
+    let mut split = BTreeSet::new();
+    for (request, answer, out) in answered(15) {
+        let choice = request.c.len().min(request.n.into());
+        let n = (0..=MOST).find(|n| request.a.len() == RECORD_BYTES << n);
+        let (count, part) = match n {
+            Some(n) if choice == 2 => (request.b.len().div_ceil(64 << n), 65 << n),
+            _ => (1, 0),
+        };
+        let in_records = request.o.min(request.r.into());
+        let of_records = in_records as isize - (HEADER_BYTES * count) as isize;
+        let of_repaired = (request.o - in_records) as isize - (part * count) as isize;
+        rooms.insert((of_records.clamp(-2, 1), of_repaired.clamp(-2, 1)));
+        split.insert((
+            usize::from(request.n) > request.c.len(),
+            usize::from(request.r) > request.o,
+        ));
+        let short = of_records < 0 || of_repaired < 0;
+        assert_eq!(answer, &Answer::code(if short { 16 } else { 0 }));
+        if short {
+            assert!(out.iter().all(|&byte| byte == 165), "untouched");
+            continue;
+        }
+        let (of_records, repaired) = out.split_at(in_records);
+        assert!(of_records[HEADER_BYTES * count..]
+            .iter()
+            .all(|&byte| byte == 165));
+        assert!(repaired[part * count..].iter().all(|&byte| byte == 165));
+        let of_records = of_records.chunks(HEADER_BYTES).take(count);
+        let codes: Vec<u16> = of_records
+            .clone()
+            .map(|record| numbers_of(record)[0])
+            .collect();
+        assert!(of_records.clone().all(|record| record[10..] == [0; 6]));
+        if part == 0 {
+            one_record.insert((n, codes[0], request.b.is_empty()));
+            continue;
+        }
+        let n = n.unwrap();
+        counts.insert((n, count));
+        rests.insert((n, request.b.len() % (64 << n)));
+        for (k, &code) in codes.iter().enumerate() {
+            records.insert((n, code));
+            let theirs = &repaired[part * k..][..part];
+            assert_eq!(code > 1, theirs.iter().all(|&byte| byte == 255));
+        }
+        after_spoilt.extend(codes.windows(2).any(|w| w[0] == 2 && w[1] < 2).then_some(n));
+    }
+    for short in [(-1, 0), (0, -1), (-1, -1), (-1, 1), (1, -1), (1, 1), (0, 0)] {
+        assert!(rooms.contains(&short), "{short:?}");
+    }
+    for both in [(false, false), (true, false), (false, true), (true, true)] {
+        assert!(split.contains(&both), "{both:?}");
+    }
+    assert!([true, false]
+        .iter()
+        .all(|&empty| one_record.contains(&(None, 11, empty))));
+    for n in 0..=MOST {
+        let codes = match n {
+            0..5 => &[0, 1, 2, 12, 13, 14, 15, 18, 19][..],
+            5 | 6 => &[0, 2, 14],
+            _ => &[],
+        };
+        for &code in codes {
+            // one symbol has no rule to break
+            let possible = (n, code) != (0, 2);
+            assert_eq!(records.contains(&(n, code)), possible, "n {n}, {code}");
+        }
+        assert!(records.iter().any(|&(m, code)| m == n && code < 3), "n {n}");
+        for count in [0, 1, 3, 5] {
+            assert!(
+                n > 4 || counts.contains(&(n, count)),
+                "n {n}, {count} strips"
+            );
+        }
+        assert!(n == 0 || n > 5 || after_spoilt.contains(&n), "n {n}");
+        assert!(
+            n > 7 || rests.iter().any(|&(m, rest)| m == n && rest > 0),
+            "n {n}"
+        );
+        assert!(n > 3 || rests.contains(&(n, (64 << n) - 1)), "n {n}");
+        let held = n <= LONG || n == MOST;
+        assert!(
+            !held
+                || [true, false]
+                    .iter()
+                    .any(|&e| one_record.contains(&(Some(n), 13, e)))
+        );
     }
 }

@@ -34,6 +34,20 @@ pub fn all(seed: u64, largest: u8, make: Maker) -> Vec<Request> {
     .concat()
 }
 
+/// The lists of what is wrong with the sheet or its check length alone.
+pub fn of_sheet(seed: u64, make: Maker) -> Vec<Request> {
+    let rng = |list| Rng::new(seed + list);
+    [
+        sheet_lengths(rng(0), make),
+        bad_records(rng(1), make),
+        wrong_checks(rng(2), make),
+        small_k(rng(3), make),
+        no_free_position(rng(4), make),
+        old_layout(rng(5), make),
+    ]
+    .concat()
+}
+
 /// Sets of faults, each by the codes of their refusals. Of short codes every set of those of encoding
 /// and read-back without 19, and 19 with up to two others; of 16 and 32 symbols no fault, each
 /// alone, with each later one and with all later ones; of longer codes each with all later ones.
@@ -58,7 +72,7 @@ pub fn singles() -> Vec<Vec<u16>> {
 }
 
 /// Each fault with all later ones; and no fault, each alone and with each later one.
-fn chains(pairs: bool) -> Vec<Vec<u16>> {
+pub fn chains(pairs: bool) -> Vec<Vec<u16>> {
     let codes = &ORDER[..OF_CODEC];
     let mut list: Vec<Vec<u16>> = (0..OF_CODEC).map(|at| codes[at..].to_vec()).collect();
     if pairs {
@@ -105,6 +119,13 @@ pub fn put(rng: &mut Rng, mut request: Request, set: &[u16], largest: u8) -> Req
         };
         request.b.resize(length, 1);
     }
+    put_in_sheet(rng, &mut request, set);
+    request
+}
+
+/// Puts the faults 13, 12 and 11 of a set into a request.
+pub fn put_in_sheet(rng: &mut Rng, request: &mut Request, set: &[u16]) {
+    let has = |code: u16| set.contains(&code);
     if has(13) {
         request.r = wrong_check(rng, &request.a) as u16;
     }
@@ -119,13 +140,12 @@ pub fn put(rng: &mut Rng, mut request: Request, set: &[u16], largest: u8) -> Req
         }
     }
     if has(11) {
-        wrong_length(rng, &mut request);
+        wrong_length(rng, request);
     }
-    request
 }
 
 /// Another sheet of the same N, with no free position; K - r is 0 without a check.
-fn free_nothing(rng: &mut Rng, request: &mut Request) {
+pub fn free_nothing(rng: &mut Rng, request: &mut Request) {
     request.a = none_free(rng, request.n.into());
     request.r = 0;
     match request.op {

@@ -4,18 +4,21 @@
 mod convert;
 mod decode;
 mod encode;
+mod end_to_end;
 mod faults;
 mod parts;
 mod read_back;
 mod sheets;
 mod stream;
+mod strips;
 mod unknowns;
+mod views;
 
 use crate::protocol::Request;
 pub use parts::Code;
 
 /// The ops that go into the vectors, in their order.
-pub const OPS: [u16; 6] = [0, 1, 2, 3, 4, 5];
+pub const OPS: [u16; 9] = [0, 1, 2, 3, 4, 5, 7, 8, 15];
 
 /// Every request of the vectors, in its order.
 pub fn all() -> Vec<Request> {
@@ -31,6 +34,9 @@ pub fn of(op: u16) -> Vec<Request> {
         3 => read_back::all(),
         4 => stream::all(),
         5 => convert::all(),
+        7 => strips::all(),
+        8 => views::all(),
+        15 => end_to_end::all(),
         op => panic!("no op {op}"),
     }
 }
