@@ -3,6 +3,7 @@
 --     bare-led, bare-added                        one row, with a coefficient and without
 --     CollectedUpTo, collect-none, -next, -all    the lanes of all rows
 --     NoneUpTo, none-.., Sought, seek-..          the two searches
+--     place-below                                 the first place, by tests that are equal
 --     none-first, seek-first                      the first lane
 use mathlib.Core.Path.{_≡_, refl, sym, ap, ap₂, _∙_, subst}
 use mathlib.Core.Logic.{_⊎_, inl, inr, ⊎-elim}
@@ -180,7 +181,7 @@ module _ {b : List ℕ} {t : ℕ} (u : Sought b t) where
 
 -- ---- from the words to the equations
 
-place-below : (n : ℕ) (f : ℕ → ℕ) (p q : ℕ → Bool) → ((i : ℕ) → i < n → p (f i) ≡ q (f i)) → firstPlace p (tab n f) ≡ firstPlace q (tab n f)
+pub place-below : (n : ℕ) (f : ℕ → ℕ) (p q : ℕ → Bool) → ((i : ℕ) → i < n → p (f i) ≡ q (f i)) → firstPlace p (tab n f) ≡ firstPlace q (tab n f)
 place-below zero f p q h = refl
 place-below (suc n) f p q h = ap₂ (λ (b : Bool) (k : ℕ). pick b zero (suc k)) (h 0 (omega arith)) (place-below n (λ (i : ℕ). f (suc i)) p q (λ i k. h (suc i) (omega arith)))
 

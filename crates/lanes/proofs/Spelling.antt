@@ -1,5 +1,6 @@
 -- Bytes, records and marks.
 --     PutUpTo, put-none, put-next, put-all             the bytes of a word
+--     packed-ext                                       a number from its bits
 --     byte-of                                          a byte of the constants of 64 lanes is the record's
 --     SpeltUpTo, spell-none, spell-next, spell-all     the bytes of a record
 --     blank-is, record-long, record-led, record-bare   a record
@@ -61,7 +62,7 @@ put-all u h = record { new = λ q p. u .new q (omega arith); old = u .old }
 
 -- ---- numbers of bits
 
-packed-ext : (n : ℕ) (f g : ℕ → ℕ) → ((b : ℕ) → b < n → f b ≡ g b) → packed n f ≡ packed n g
+pub packed-ext : (n : ℕ) (f g : ℕ → ℕ) → ((b : ℕ) → b < n → f b ≡ g b) → packed n f ≡ packed n g
 packed-ext zero f g h = refl
 packed-ext (suc n) f g h = ap₂ (λ (x y : ℕ). x + y * 2) (h 0 (omega arith)) (packed-ext n (λ (i : ℕ). f (suc i)) (λ (i : ℕ). g (suc i)) (λ b k. h (suc b) (omega arith)))
 

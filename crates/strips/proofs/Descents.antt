@@ -26,6 +26,7 @@ use Rattle.meaning.specs.Limits.{largestN, recordBytes, largestCeiling}
 use Rattle.meaning.specs.Sheet.{Rule, free, frozen, ruleAt, rules, frees}
 use Rattle.meaning.specs.Codewords.{candidates}
 use Rattle.meaning.specs.Open.{openAll, closedFrozen, unknowns, equations}
+use Rattle.meaning.specs.Answers.{Reply, leaving}
 use Rattle.meaning.specs.declared.Answer.the-variants.{TooMany}
 use Rattle.meaning.proofs.Sound.{length-rules}
 use Rattle.model.specs.Model.{checks}
@@ -39,13 +40,13 @@ use Rattle.descent.proofs.Placed.{ToldRows, done-tells-rows}
 use Rattle.verdict.specs.Reading.{constant}
 use Rattle.verdict.proofs.Lanes.{symsOf, rowsOut, rowsSystem}
 use Rattle.reading.proofs.Cutting.{rows-agree}
+use Rattle.lanes.specs.Lanes.{rowReply}
 use Rattle.decoder.specs.Deciding.{systemRows}
 use Rattle.decoder.proofs.Systems.{many-rows}
-use Rattle.strips.specs.Repairing.{Told, refusing, repairVerdict}
-use Rattle.strips.specs.Laned.{rowRepair}
+use Rattle.strips.specs.Repairing.{stripReply}
 use Rattle.strips.specs.Placing.{Placed}
-use Rattle.strips.specs.Deciding.{laneIn, repairDeciding, mostWords, Formed, Settling}
-use Rattle.strips.proofs.Bytes.{Bytes}
+use Rattle.strips.specs.Deciding.{laneVerdict, repairDeciding, Formed, Settling}
+use Rattle.strips.specs.Rooms.{mostWords}
 use Rattle.strips.proofs.Lanewise.{system-low, verdict-lanes}
 
 closed-none : (ks : List Rule) → ones (closedFrozen ks []) ≡ 0
@@ -92,18 +93,18 @@ module _ (co wd n : ℕ) (s : List ℕ) (r c : ℕ) (strip w out vals us eqs : L
       go true p = let a = ap (λ (o : Outcome). o .answer) p in let z : _≡_ {A = ℕ} 0 1 = cc in absurd (omega arith)
       go false p = let a = ap (λ (o : Outcome). o .answer) p in let z : _≡_ {A = ℕ} 0 1 = cc in absurd (omega arith)
 
-  abbrev finding : Told
-  finding = repairVerdict n (λ (t : ℕ). candidates n (rules n s) r (laneIn strip w t)) G (equations n (rules n s) r w) out
+  abbrev finding : Reply
+  finding = stripReply n (laneVerdict n s r strip w) out
 
-  pub too-many-rows : (g : ℕ) (a : Descent) (v u e : List ℕ) → a ≡ Over g → descended a v u e ≡ descendingRows n s w c co wd vals us eqs → refusing out (TooMany g) ≡ repairDeciding n s r c strip w out
+  pub too-many-rows : (g : ℕ) (a : Descent) (v u e : List ℕ) → a ≡ Over g → descended a v u e ≡ descendingRows n s w c co wd vals us eqs → leaving out (TooMany g) ≡ repairDeciding n s r c strip w out
   unfolding repairDeciding
   too-many-rows g a v u e ea q = go (ltb c G) (at-fit (Over g) v u e (case a (Over g) v u e ea q))
     where
-      go : (b : Bool) → descended (Over g) v u e ≡ pick b (descended (Over G) vals us eqs) (written n G wd (foundRows n s w co wd vals)) → refusing out (TooMany g) ≡ pick b (refusing out (TooMany G)) finding
-      go true p = let a = ap (λ (o : Outcome). o .answer) p in let e : g ≡ G = cc in ap (λ (k : ℕ). refusing out (TooMany k)) e
+      go : (b : Bool) → descended (Over g) v u e ≡ pick b (descended (Over G) vals us eqs) (written n G wd (foundRows n s w co wd vals)) → leaving out (TooMany g) ≡ pick b (leaving out (TooMany G)) finding
+      go true p = let a = ap (λ (o : Outcome). o .answer) p in let e : g ≡ G = cc in ap (λ (k : ℕ). leaving out (TooMany k)) e
       go false p = let a = ap (λ (o : Outcome). o .answer) p in let z : _≡_ {A = ℕ} 0 1 = cc in absurd (omega arith)
 
-  module _ (B : Bytes strip) (k : ℕ) (ek : k ≡ length w) (pl₀ : Placed co wd k strip vals) (g m : ℕ) (a : Descent) (v u e : List ℕ) (ea : a ≡ Done g m)
+  module _ (k : ℕ) (ek : k ≡ length w) (pl₀ : Placed co wd k strip vals) (g m : ℕ) (a : Descent) (v u e : List ℕ) (ea : a ≡ Done g m)
       (q : descended a v u e ≡ descendingRows n s w c co wd vals us eqs) (kv : length v ≡ length vals) (ku : length u ≡ length us) (ke : length e ≡ length eqs) where
     T : ToldRows n s w c co wd vals g m v u e
     T = done-tells-rows n s w c co wd vals us eqs g m v u e (case a (Done g m) v u e ea q)
@@ -146,19 +147,19 @@ module _ (co wd n : ℕ) (s : List ℕ) (r c : ℕ) (strip w out vals us eqs : L
           rows-v = kv ∙ lv;
           rows-e = let f : (m + r) * wd ≤ 2 ^ n * wd = mul-le-mul-right wd few in omega (arith, ke, le);
           roomy = F .room;
-          rank = rw (system-is) (omega (arith, T .unknown, rank-le co E (rowsOf wd v) (constant co) (has-⊻ (64 * co)) G low (system-low n s w strip vals co wd r hw (T .symbols) (F .ordered) B pl low)));
+          rank = rw (system-is) (omega (arith, T .unknown, rank-le co E (rowsOf wd v) (constant co) (has-⊻ (64 * co)) G low (system-low n s w strip vals co wd r hw (T .symbols) (F .ordered) pl low)));
         }
 
-    verdict-is : rowRepair co g (m + r) (solve co (systemRows co wd n s r m u e) (rowsOf wd v)) out ≡ repairDeciding n s r c strip w out
+    verdict-is : rowReply co g (m + r) (solve co (systemRows co wd n s r m u e) (rowsOf wd v)) out ≡ repairDeciding n s r c strip w out
     unfolding repairDeciding
     verdict-is =
         let a : G ≤ c = omega (arith, T .unknown, T .few) in
-        ap₂ (λ (x y : List Row). rowRepair co g (m + r) (solve co x y) out) system-is block-is
-        ∙ ap₂ (λ (g m : ℕ). rowRepair co g m (solve co E X) out) (T .unknown) many
-        ∙ sym (verdict-lanes n s w strip vals co wd r hw (T .symbols) (F .ordered) B pl low (equations n (rules n s) r w) out)
-        ∙ sym (ap (λ (t : Bool). pick t (refusing out (TooMany G)) finding) (le-ltb c G a))
+        ap₂ (λ (x y : List Row). rowReply co g (m + r) (solve co x y) out) system-is block-is
+        ∙ ap₂ (λ (g m : ℕ). rowReply co g m (solve co E X) out) (T .unknown) many
+        ∙ sym (verdict-lanes n s w strip vals co wd r hw (T .symbols) (F .ordered) pl low out)
+        ∙ sym (ap (λ (t : Bool). pick t (leaving out (TooMany G)) finding) (le-ltb c G a))
 
-    pub decided : (x : Told) → x ≡ rowRepair co g (m + r) (solve co (systemRows co wd n s r m u e) (rowsOf wd v)) out → x ≡ repairDeciding n s r c strip w out
+    pub decided : (x : Reply) → x ≡ rowReply co g (m + r) (solve co (systemRows co wd n s r m u e) (rowsOf wd v)) out → x ≡ repairDeciding n s r c strip w out
     decided x p = p ∙ verdict-is
 
 -- ---- the words of a row
@@ -168,9 +169,9 @@ module _ (n : ℕ) (s : List ℕ) (r c : ℕ) (strip w out : List ℕ) (F : Form
   unfolding counting shaped
   all-counted = eg ∙ rw (le-leb n largestN (F .small), eq-eqb (length s) (2 ^ n * recordBytes) (F .long), eq-eqb (length w) (2 ^ n) (F .symbols)) refl
 
-  pub over : c < g → refusing out (TooMany g) ≡ repairDeciding n s r c strip w out
+  pub over : c < g → leaving out (TooMany g) ≡ repairDeciding n s r c strip w out
   unfolding repairDeciding
-  over h = ap (λ (k : ℕ). refusing out (TooMany k)) all-counted ∙ sym (rw (lt-ltb c (unknowns n (rules n s) w) (omega (arith, all-counted))) refl)
+  over h = ap (λ (k : ℕ). leaving out (TooMany k)) all-counted ∙ sym (rw (lt-ltb c (unknowns n (rules n s) w) (omega (arith, all-counted))) refl)
 
   module _ (h : g ≤ c) where
     -- the ceiling can as well be the number of unknowns
@@ -188,21 +189,22 @@ module _ (n : ℕ) (s : List ℕ) (r c : ℕ) (strip w out : List ℕ) (F : Form
           low = omega (arith, F .low);
         }
 
-    pub decided-at : (x : Told) → x ≡ repairDeciding n s r g strip w out → x ≡ repairDeciding n s r c strip w out
+    pub decided-at : (x : Reply) → x ≡ repairDeciding n s r g strip w out → x ≡ repairDeciding n s r c strip w out
     unfolding repairDeciding
     decided-at x p = p ∙ rw (le-ltb g (unknowns n (rules n s) w) (omega (arith, all-counted)), le-ltb c (unknowns n (rules n s) w) (omega (arith, all-counted))) refl
 
-    pub row-fits : (g / 64 + 1 + 9 ≡ g / 64 + 1 + 9) × (g / 64 + 1 + 9 ≤ widest) × (g ≤ 64 * (g / 64 + 1))
+    pub row-fits : (g ≤ 64 * (g / 64 + 1)) × (g / 64 + 1 + 9 ≤ widest)
     unfolding widest largestCeiling
-    row-fits = let l = F .low in (refl, omega arith, omega arith)
+    row-fits = let l = F .low in (omega arith, omega arith)
 
-    few-words : g / 64 + 1 + 9 ≤ mostWords
-    unfolding mostWords largestCeiling
-    few-words = let l = F .low in omega arith
+    few-words : g / 64 + 1 + 9 ≤ largestCeiling / 64 + 10
+    few-words = let l = F .low in omega (arith, h)
 
     -- there is room for the rows of N symbols
-    pub within : (k : ℕ) → 2 ^ largestN * mostWords ≤ k → length w * (g / 64 + 1 + 9) ≤ k
-    within k h = le-trans (mul-le-mul (le-trans (le-of-eq (F .symbols)) (pow-mono (F .small))) few-words) h
+    pub within : length w * (g / 64 + 1 + 9) ≤ mostWords
+    unfolding mostWords
+    within = mul-le-mul (le-trans (le-of-eq (F .symbols)) (pow-mono (F .small))) few-words
 
-    pub rows-long : (l : List ℕ) → 2 ^ largestN * mostWords ≤ length l → length (take (length w * (g / 64 + 1 + 9) - 0) l) ≡ 2 ^ n * (g / 64 + 1 + 9)
-    rows-long l h = let k = within (length l) h in simp length-take (omega (arith, k)) ∙ ap (λ (t : ℕ). t * (g / 64 + 1 + 9)) (F .symbols)
+-- the rows of N symbols, of a list with room for them
+pub rows-long : (n c k : ℕ) (l : List ℕ) → k ≡ 2 ^ n → k * (c + 9) ≤ length l → length (take (k * (c + 9) - 0) l) ≡ 2 ^ n * (c + 9)
+rows-long n c k l e h = simp length-take (omega (arith, h)) ∙ ap (λ (t : ℕ). t * (c + 9)) e

@@ -1,34 +1,37 @@
 -- The faults of form, and repairing where one applies and where none does.
 --     fault-..                     the fault of form, test by test
+--     lane-same                    the word of a lane, by the marks and by what is lost as a word
+--     lane-formed                  no fault of form in a strip, none in its lanes
 --     repair-refused               repairing is refused for it
 --     repair-passed                nothing is refused
 --     repair-decided               what is left to decide
 use mathlib.Core.Path.{_≡_, refl, sym, ap, ap₂, _∙_}
+use mathlib.Core.Logic.{⊎-elim}
 use Prim.Native.Nat.{ℕ, zero, suc, _+_, _*_, _/_, _^_, _≤_, _<_}
 use native.Mathlib.Omega.{arith}
 use mathlib.Core.Bool.{Bool, true, false, not, _||_}
 use mathlib.Core.List.{List, [], _∷_, _++_, map, append-assoc}
-use lib.ListN.{length, getD, length-map}
+use lib.ListN.{length, getD, replicate, length-map, length-replicate}
 use lib.Dec.{ltb, eqb}
 use borrow.Author.Tests.{lt-ltb, le-ltb, eq-eqb, ne-eqb, ltb-false, eqb-true, not-true, not-false}
-use Rattle.bits.specs.Vectors.{pick, tab, ones}
-use Rattle.bits.proofs.Tests.{or-false-l, or-false-r, tab-ext}
+use Rattle.bits.specs.Vectors.{pick, tab, ones, firstPlace}
+use Rattle.bits.proofs.Tests.{or-false-l, or-false-r, length-tab, tab-at, not-both, place-le, place-passes, le-or-lt}
 use Rattle.meaning.specs.Limits.{largestN, maskBytes, recordBytes, largestCeiling}
 use Rattle.meaning.specs.Sheet.{Rule, rules}
 use Rattle.meaning.specs.Codewords.{erased, candidates}
 use Rattle.meaning.specs.Open.{isOpen, openAll, openFree, closedFrozen, unknowns, equations}
-use Rattle.meaning.specs.Answers.{Refusal, _⇒_, firstOf, isDone, checking, wording, refuses, sheetRefusals, wordRefusals}
+use Rattle.meaning.specs.Answers.{Refusal, _⇒_, firstOf, isDone, checking, wording, refuses, sheetRefusals, wordRefusals, formRefusals, Reply, leaving, verdict, decoding}
 use Rattle.meaning.specs.declared.Answer.{Answer}
 use Rattle.meaning.specs.declared.Answer.the-variants.{Done, BadLength, BadCeiling, TooMany}
 use Rattle.meaning.proofs.Refusals.{tried-done, tried-refused, past-none, none-append}
 use Rattle.meaning.proofs.Forms.{good, checked-none, worded, worded-none}
+use Rattle.meaning.proofs.Demands.{under}
 use Rattle.form.proofs.Records.{records-in}
 use Rattle.counting.proofs.Lengths.{positions}
-use Rattle.strips.specs.declared.Verdict.{Verdict}
-use Rattle.strips.specs.declared.Verdict.the-variants.{Refused}
-use Rattle.strips.specs.Repairing.{laneBit, laneOf, repairForm, repairRefusals, Told, told, refusing, repairVerdict, repairing}
+use Rattle.decoder.proofs.Deciding.{form-none}
+use Rattle.strips.specs.Repairing.{laneBit, laneOf, repairForm, repairRefusals, laneReply, stripReply, repairing}
 use Rattle.strips.specs.Placing.{lostSym, lostWord}
-use Rattle.strips.specs.Deciding.{repairFault, laneIn, repairDeciding, Formed}
+use Rattle.strips.specs.Deciding.{repairFault, laneIn, laneVerdict, repairDeciding, Formed}
 
 -- ---- the fault of form
 
@@ -120,18 +123,22 @@ module _ (strip word : List ℕ) (t n : ℕ) where
   unfolding openAll
   open-same = ap (λ (es : List Bool). tab (2 ^ n) (isOpen n es)) (in-erased word (λ (j : ℕ). laneBit strip j t) (λ j. omega arith))
 
--- g and m are those of every lane
-module _ (n : ℕ) (ks : List Rule) (strip lost : List ℕ) (t : ℕ) where
-  open-lost : openAll n (laneOf strip lost t) ≡ openAll n (laneOf strip lost 0)
-  open-lost = ap (openAll n) (lane-same strip lost t) ∙ open-same strip (lostWord lost) t n ∙ sym (ap (openAll n) (lane-same strip lost 0) ∙ open-same strip (lostWord lost) 0 n)
+-- a lane is a word of N symbols up to 2
+lane-worded : (strip lost : List ℕ) (t N : ℕ) → length lost ≡ N → refuses (wordRefusals N 2 (3 * N) (laneOf strip lost t) (length (replicate {A = ℕ} (3 * N) 0))) ≡ false
+unfolding wordRefusals
+lane-worded strip lost t N e =
+    let w : List ℕ = laneOf strip lost t in
+    let l : length w ≡ length lost = length-tab (length lost) _ in
+    let f : firstPlace (ltb 2) w ≡ length w = ⊎-elim (λ (h : length w ≤ firstPlace (ltb 2) w). let p = place-le (ltb 2) w in omega arith)
+    (λ (h : firstPlace (ltb 2) w < length w). absurd (not-both (place-passes (ltb 2) w 0 h) (small (firstPlace (ltb 2) w) (omega arith)))) (le-or-lt (length w) (firstPlace (ltb 2) w)) in
+    rw (eq-eqb (length w) N (l ∙ e), le-ltb (firstPlace (ltb 2) w) (length w) (omega arith), le-ltb (length (replicate {A = ℕ} (3 * N) 0)) (3 * N) (omega (arith, length-replicate {A = ℕ} (3 * N) 0))) refl
+  where
+    two : (b : Bool) (x : ℕ) → x < 2 → ltb 2 (pick b x 2) ≡ false
+    two true x h = le-ltb 2 x (omega arith)
+    two false x h = refl
 
-  pub unknowns-agree : unknowns n ks (laneOf strip lost t) ≡ unknowns n ks (laneOf strip lost 0)
-  unfolding unknowns
-  unknowns-agree = ap (λ (o : List Bool). ones (openFree ks o)) open-lost
-
-  pub equations-agree : (r : ℕ) → equations n ks r (laneOf strip lost t) ≡ equations n ks r (laneOf strip lost 0)
-  unfolding equations
-  equations-agree r = ap (λ (o : List Bool). ones (closedFrozen ks o) + r) open-lost
+    small : (j : ℕ) → j < length lost → ltb 2 (getD (laneOf strip lost t) j 0) ≡ false
+    small j h = ap (ltb 2) (tab-at (length lost) _ j 0 h) ∙ two (eqb (getD lost j 0) 0) (laneBit strip j t) (omega arith)
 
 -- ---- repairing
 
@@ -142,28 +149,45 @@ module _ (n : ℕ) (s : List ℕ) (r c : ℕ) (strip lost out : List ℕ) where
   abbrev G : ℕ
   G = unknowns n (rules n s) (laneOf strip lost 0)
 
-  abbrev last : Told
-  last = repairVerdict n (λ (t : ℕ). candidates n (rules n s) r (laneOf strip lost t)) G (equations n (rules n s) r (laneOf strip lost 0)) out
+  abbrev last : Reply
+  last = stripReply n (laneReply n s r c strip lost) out
 
-  g-same : G ≡ unknowns n (rules n s) (lostWord lost)
+  g-same : (t : ℕ) → unknowns n (rules n s) (laneOf strip lost t) ≡ unknowns n (rules n s) (lostWord lost)
   unfolding unknowns
-  g-same = ap (λ (o : List Bool). ones (openFree (rules n s) o)) (ap (openAll n) (lane-same strip lost 0) ∙ open-same strip (lostWord lost) 0 n)
+  g-same t = ap (λ (o : List Bool). ones (openFree (rules n s) o)) (ap (openAll n) (lane-same strip lost t) ∙ open-same strip (lostWord lost) t n)
 
-  m-same : equations n (rules n s) r (laneOf strip lost 0) ≡ equations n (rules n s) r (lostWord lost)
+  m-same : (t : ℕ) → equations n (rules n s) r (laneOf strip lost t) ≡ equations n (rules n s) r (lostWord lost)
   unfolding equations
-  m-same = ap (λ (o : List Bool). ones (closedFrozen (rules n s) o) + r) (ap (openAll n) (lane-same strip lost 0) ∙ open-same strip (lostWord lost) 0 n)
+  m-same t = ap (λ (o : List Bool). ones (closedFrozen (rules n s) o) + r) (ap (openAll n) (lane-same strip lost t) ∙ open-same strip (lostWord lost) t n)
 
-  cs-same : _≡_ {A = ℕ → List (List Bool)} (λ (t : ℕ). candidates n (rules n s) r (laneOf strip lost t)) (λ (t : ℕ). candidates n (rules n s) r (laneIn strip (lostWord lost) t))
-  cs-same = λ i t. candidates n (rules n s) r (lane-same strip lost t i)
+  -- no fault of form in a strip, none in its lanes
+  pub lane-formed : refuses F ≡ false → (t : ℕ) → refuses (formRefusals n s r c (laneOf strip lost t) (replicate (3 * 2 ^ n) 0)) ≡ false
+  unfolding repairForm wordRefusals
+  lane-formed h t =
+      let (p, u) = none-append (S n s r c (length strip) lost (length out) ++ L n s r c (length strip) lost (length out)) _ h in
+      let (q, v) = none-append (S n s r c (length strip) lost (length out)) _ p in
+      let d = worded (2 ^ n) 1 (65 * 2 ^ n) lost (length out) (or-false-r (not (eqb (length strip) (2 ^ n * 64))) _ v) in
+      form-none n s r c (laneOf strip lost t) (replicate (3 * 2 ^ n) 0) q (lane-worded strip lost t (2 ^ n) (d .long)) (ltb-false largestCeiling c (or-false-l (ltb largestCeiling c) false u))
 
-  last-is : last ≡ repairVerdict n (λ (t : ℕ). candidates n (rules n s) r (laneIn strip (lostWord lost) t)) (unknowns n (rules n s) (lostWord lost)) (equations n (rules n s) r (lostWord lost)) out
-  last-is = λ i. repairVerdict n (cs-same i) (g-same i) (m-same i) out
+  -- what `decode` answers lane t, where 18 does not apply
+  lane-told : refuses F ≡ false → unknowns n (rules n s) (lostWord lost) ≤ c → (t : ℕ) → laneReply n s r c strip lost t ≡ laneVerdict n s r strip (lostWord lost) t
+  lane-told h l t =
+      under n s r c (laneOf strip lost t) (replicate (3 * 2 ^ n) 0) (lane-formed h t) (omega (arith, g-same t))
+      ∙ λ i. verdict n (g-same t i) (m-same t i) (candidates n (rules n s) r (lane-same strip lost t i)) (replicate (3 * 2 ^ n) 0)
 
   pub deciding-is : refuses F ≡ false → repairDeciding n s r c strip (lostWord lost) out ≡ repairing n s r c strip lost out
   unfolding repairDeciding repairing repairRefusals
   deciding-is h =
-      sym (past-none (refusing out) F ((ltb c G ⇒ TooMany G) ∷ []) last h
-      ∙ ap₂ (λ (g : ℕ) (z : Told). pick (ltb c g) (refusing out (TooMany g)) z) g-same last-is)
+      sym (past-none (leaving out) F ((ltb c G ⇒ TooMany G) ∷ []) last h
+      ∙ ap (λ (g : ℕ). pick (ltb c g) (leaving out (TooMany g)) last) (g-same 0) ∙ go (ltb c (unknowns n (rules n s) (lostWord lost))) refl)
+    where
+      W′ : List ℕ
+      W′ = lostWord lost
+
+      go : (b : Bool) → ltb c (unknowns n (rules n s) W′) ≡ b
+          → pick b (leaving out (TooMany (unknowns n (rules n s) W′))) last ≡ pick b (leaving out (TooMany (unknowns n (rules n s) W′))) (stripReply n (laneVerdict n s r strip W′) out)
+      go true e = refl
+      go false e = ap (λ (f : ℕ → Reply). stripReply n f out) (λ i t. lane-told h (ltb-false c (unknowns n (rules n s) W′) e) t i)
 
   formed : refuses F ≡ false → Formed n s r c (length strip) (length (lostWord lost)) (length out)
   unfolding repairForm
@@ -185,9 +209,9 @@ module _ (n : ℕ) (s : List ℕ) (r c : ℕ) (strip lost out : List ℕ) where
       }
 
   module _ (a : Answer) (ea : a ≡ repairFault n s r c (length strip) lost (length out)) (b : Bool) (eb : b ≡ isDone a) where
-    pub repair-refused : b ≡ false → told out (Refused a) ≡ repairing n s r c strip lost out
+    pub repair-refused : b ≡ false → leaving out a ≡ repairing n s r c strip lost out
     unfolding repairFault repairing repairRefusals
-    repair-refused t = ap (refusing out) ea ∙ sym (tried-refused (refusing out) F ((ltb c G ⇒ TooMany G) ∷ []) last (ap isDone (sym ea) ∙ sym eb ∙ t))
+    repair-refused t = ap (leaving out) ea ∙ sym (tried-refused (leaving out) F ((ltb c G ⇒ TooMany G) ∷ []) last (ap isDone (sym ea) ∙ sym eb ∙ t))
 
     none : b ≡ true → refuses F ≡ false
     unfolding repairFault repairForm sheetRefusals wordRefusals
@@ -196,7 +220,7 @@ module _ (n : ℕ) (s : List ℕ) (r c : ℕ) (strip lost out : List ℕ) where
     pub repair-passed : b ≡ true → Formed n s r c (length strip) (length (lostWord lost)) (length out)
     repair-passed t = formed (none t)
 
-    pub repair-decided : b ≡ true → (x : Told) → x ≡ repairDeciding n s r c strip (lostWord lost) out → x ≡ repairing n s r c strip lost out
+    pub repair-decided : b ≡ true → (x : Reply) → x ≡ repairDeciding n s r c strip (lostWord lost) out → x ≡ repairing n s r c strip lost out
     repair-decided t x p = p ∙ deciding-is (none t)
 
 -- no more records than a mask can name

@@ -1,8 +1,6 @@
--- Bytes: numbers of bytes and of bits. Loops: what the loops keep. AtLane: what one row says in a lane.
-pub mod Bytes
+-- Loops: what the loops keep. Faults: the faults of form. Lanewise: each lane of the rows is the decoder's. Solver, Descents: what the calls leave, and what is
+-- decided. Promise: what follows from the promise of `repair`.
 pub mod Loops
-pub mod AtLane
-pub mod Writing
 pub mod Solver
 pub mod Faults
 pub mod Lanewise

@@ -1,6 +1,6 @@
 -- What a call of the solver leaves, and what the last step needs and gives.
---     never-misfit, conclude-asks, concluded     the solver
---     finishing, settled-as                      the check's rows behind those of the descent
+--     never-misfit, concluded     the solver
+--     finishing, settled-as       the check's rows behind those of the descent
 use mathlib.Core.Path.{_≡_, sym, ap, subst, _∙_}
 use Prim.Native.Nat.{ℕ, _+_, _*_, _/_, _^_, _≤_, _<_}
 use native.Mathlib.Omega.{arith}
@@ -14,12 +14,13 @@ use Rattle.gf2.specs.declared.Outcome.{Outcome}
 use Rattle.gf2.specs.declared.Outcome.the-variants.{Misfit, Rank}
 use Rattle.gf2.proofs.Glue.{all-fit}
 use Rattle.gf2.proofs.Calls.{left}
+use Rattle.meaning.specs.Answers.{Reply}
 use Rattle.reading.proofs.Fitting.{nothing-over}
 use Rattle.checks.specs.Checking.{checked, checking}
 use Rattle.decoder.specs.Deciding.{systemRows}
 use Rattle.decoder.proofs.Systems.{many-rows, system-length, system-part}
-use Rattle.strips.specs.Repairing.{Told}
-use Rattle.strips.specs.Laned.{rowRepair}
+use Rattle.lanes.specs.Lanes.{rowReply, concluding}
+use Rattle.lanes.proofs.Fitting.{Fit, concluding-is}
 use Rattle.strips.specs.Deciding.{Settling}
 
 module _ (co wd : ℕ) (hw : co + 9 ≤ wd) (e r e₁ r₁ : List ℕ) (o : Outcome) (he : length e ≡ length e / wd * wd) (hr : length r ≡ length r / wd * wd) (h : done e₁ r₁ o ≡ solved co wd e r) where
@@ -38,15 +39,18 @@ module _ (co wd : ℕ) (hw : co + 9 ≤ wd) (e r e₁ r₁ : List ℕ) (o : Outc
   system-is : (k : ℕ) → o ≡ Rank k → sys (rowsOf wd e₁) (rowsOf wd r₁) k ≡ after
   system-is k q = let l = left co wd e r e₁ r₁ o fit h in λ i. record { eqs = l .eqs-are i; rest = l .rest-are i; rank = rank-is k q i }
 
-  module _ (g k room : ℕ) (q : o ≡ Rank k) (ke : length e₁ ≡ length e) (kr : length r₁ ≡ length r) (rank : after .rank ≤ g) (roomy : 65 * (length r / wd) ≤ room) where
-    pub conclude-asks : ((co + 9 ≤ wd) × (length r₁ ≡ length r₁ / wd * wd) × (65 * (length r₁ / wd) ≤ room)) × ((k ≤ g) × (length e₁ ≡ length e₁ / wd * wd))
-    conclude-asks = (
-      (hw, subst (λ (l : ℕ). l ≡ l / wd * wd) (sym kr) hr, subst (λ (l : ℕ). 65 * (l / wd) ≤ room) (sym kr) roomy),
-      (omega (arith, rank-is k q, rank), subst (λ (l : ℕ). l ≡ l / wd * wd) (sym ke) he),
-    )
-
-  pub concluded : (g m k : ℕ) (out : List ℕ) → o ≡ Rank k → (x : Told) → x ≡ rowRepair co g m (sys (rowsOf wd e₁) (rowsOf wd r₁) k) out → x ≡ rowRepair co g m after out
-  concluded g m k out q x p = p ∙ ap (λ (s : Sys). rowRepair co g m s out) (system-is k q)
+  -- what `lanes::conclude` reads off the solver's rows
+  pub concluded : (g m k : ℕ) (out : List ℕ) → o ≡ Rank k → length e₁ ≡ length e → length r₁ ≡ length r → after .rank ≤ g → 65 * (length r / wd) ≤ length out
+      → (x : Reply) → x ≡ concluding co wd g m k e₁ r₁ out → x ≡ rowReply co g m after out
+  concluded g m k out q ke kr rank roomy x p =
+      let F : Fit co wd g k (length e₁) (length r₁) (length out) = record {
+        wide = hw;
+        records = subst (λ (l : ℕ). l ≡ l / wd * wd) (sym kr) hr;
+        roomy = subst (λ (l : ℕ). 65 * (l / wd) ≤ length out) (sym kr) roomy;
+        pivots = omega (arith, rank-is k q, rank);
+        equations = subst (λ (l : ℕ). l ≡ l / wd * wd) (sym ke) he;
+      } in
+      p ∙ concluding-is co wd g m k e₁ r₁ out F ∙ ap (λ (s : Sys). rowReply co g m s out) (system-is k q)
 
 -- ---- the last step
 
@@ -72,5 +76,5 @@ module _ (co wd n : ℕ) (s : List ℕ) (r g m : ℕ) (us eqs vals : List ℕ) (
       let l = system-length co wd n s r us m eqs wide (S .narrow) (S .small) (S .long) (S .check) (S .rows-u) (S .rows-e) t e q k h in
       ((omega arith, all-rows wd (2 ^ n) (length vals) some (S .rows-v), omega arith), (all-rows wd (m + r) (length (take k e)) some l, rw read-system (S .rank)))
 
-  pub settled-as : (out : List ℕ) (x : Told) → x ≡ rowRepair co g (m + r) (solve co (rowsOf wd (take k e)) (rowsOf wd vals)) out → x ≡ rowRepair co g (m + r) (solve co (systemRows co wd n s r m us eqs) (rowsOf wd vals)) out
-  settled-as out x p = p ∙ ap (λ (x : List Row). rowRepair co g (m + r) (solve co x (rowsOf wd vals)) out) read-system
+  pub settled-as : (out : List ℕ) (x : Reply) → x ≡ rowReply co g (m + r) (solve co (rowsOf wd (take k e)) (rowsOf wd vals)) out → x ≡ rowReply co g (m + r) (solve co (systemRows co wd n s r m us eqs) (rowsOf wd vals)) out
+  settled-as out x p = p ∙ ap (λ (x : List Row). rowReply co g (m + r) (solve co x (rowsOf wd vals)) out) read-system

@@ -1,29 +1,29 @@
 -- Repairing, part by part.
 --     repairFault        the fault of form that it is refused for: the first that applies, Done where none does
 --     laneIn             the word of lane t, of symbols above 1 where the record is lost
---     repairDeciding     what is left once no fault of form is found: too many unknowns, or the verdict
+--     repairDeciding     what is left once no fault of form is found: too many unknowns, or the reply
 --     Formed             no fault of form: what these refusals leave
+--     Settling           what the last step needs of a descent
 use mathlib.Core.Path.{_≡_}
 use mathlib.Core.Logic.{_⊎_}
-use Prim.Native.Nat.{ℕ, _+_, _*_, _/_, _^_, _≤_}
+use Prim.Native.Nat.{ℕ, _+_, _*_, _^_, _≤_}
 use mathlib.Core.Bool.{true}
 use mathlib.Core.List.{List}
-use lib.ListN.{length, getD}
+use lib.ListN.{length, getD, replicate}
 use lib.Dec.{ltb}
 use Rattle.bits.specs.Vectors.{pick, tab}
-use Rattle.bits.specs.Rows as bits
 use Rattle.gf2.specs.Rows.{rowsOf}
 use Rattle.gf2.specs.Solve.{solve}
 use Rattle.meaning.specs.Limits.{largestN, recordBytes, largestCeiling}
 use Rattle.meaning.specs.Sheet.{rules, frees, early}
 use Rattle.meaning.specs.Codewords.{erased, candidates}
 use Rattle.meaning.specs.Open.{unknowns, equations}
-use Rattle.meaning.specs.Answers.{firstOf}
+use Rattle.meaning.specs.Answers.{firstOf, Reply, leaving, verdict}
 use Rattle.meaning.specs.declared.Answer.{Answer}
 use Rattle.meaning.specs.declared.Answer.the-variants.{Done, TooMany}
 use Rattle.descent.specs.Descending.{widest}
 use Rattle.decoder.specs.Deciding.{systemRows}
-use Rattle.strips.specs.Repairing.{laneBit, repairForm, Told, refusing, repairVerdict}
+use Rattle.strips.specs.Repairing.{laneBit, repairForm, stripReply}
 
 unfoldable pub repairFault : ℕ → List ℕ → ℕ → ℕ → ℕ → List ℕ → ℕ → Answer
 repairFault n s r c strip lost room = firstOf (λ (a : Answer). a) (repairForm n s r c strip lost room) Done
@@ -31,16 +31,15 @@ repairFault n s r c strip lost room = firstOf (λ (a : Answer). a) (repairForm n
 abbrev pub laneIn : List ℕ → List ℕ → ℕ → List ℕ
 laneIn strip word t = tab (length word) (λ (j : ℕ). pick (erased (getD word j 2)) 2 (laneBit strip j t))
 
-unfoldable pub repairDeciding : ℕ → List ℕ → ℕ → ℕ → List ℕ → List ℕ → List ℕ → Told
-repairDeciding n s r c strip word out =
-    let ks = rules n s in
-    let g = unknowns n ks word in
-    pick (ltb c g) (refusing out (TooMany g)) (repairVerdict n (λ (t : ℕ). candidates n ks r (laneIn strip word t)) g (equations n ks r word) out)
+-- what `decode` answers lane t where the unknowns are no more than the ceiling allows
+abbrev pub laneVerdict : ℕ → List ℕ → ℕ → List ℕ → List ℕ → ℕ → Reply
+laneVerdict n s r strip word t =
+    verdict n (unknowns n (rules n s) word) (equations n (rules n s) r word) (candidates n (rules n s) r (laneIn strip word t)) (replicate (3 * 2 ^ n) 0)
 
--- a word for each 64 unknowns, one that may be empty, one for the constant of all lanes, and eight for the lanes
-unfoldable pub mostWords : ℕ
-unfolding largestCeiling
-mostWords = largestCeiling / 64 + 10
+unfoldable pub repairDeciding : ℕ → List ℕ → ℕ → ℕ → List ℕ → List ℕ → List ℕ → Reply
+repairDeciding n s r c strip word out =
+    let g = unknowns n (rules n s) word in
+    pick (ltb c g) (leaving out (TooMany g)) (stripReply n (laneVerdict n s r strip word) out)
 
 pub record Formed (n : ℕ) (s : List ℕ) (r c strip word out : ℕ) : Type 0 where
   pub small : n ≤ largestN

@@ -1,35 +1,30 @@
--- Whole strips: N records of 64 bytes end to end, of which some are lost. Lane t is bit t mod 8 of byte t div 8 of each record. 01 stands for each lane alone;
--- a strip's answer is put together from its 512 lanes'.
---     recordSize, lanes          bytes of a record, and its bits
---     laneBit strip j t          bit t of record j
---     laneOf strip lost t        the word of lane t: 2 where the record is lost, else its bit
---     packed n f                 the number whose bits are f 0, f 1, ..
---     repairRefusals             the faults, in 01's order
---     Told                       an answer, and the bytes of the output after the call
---     repaired, repairing        the repaired strip and its marks; what a call answers and leaves
-use Prim.Native.Nat.{ℕ, zero, suc, _+_, _*_, _/_, _%_, _^_}
-use mathlib.Core.Bool.{Bool, true, false, not, _||_}
-use mathlib.Core.List.{List, [], _∷_, _++_}
-use lib.ListN.{length, getD, drop}
+-- Whole strips: N records of 64 bytes end to end, of which some are lost. Lane t is bit t mod 8 of byte t div 8 of each record. A strip's reply is put together
+-- from what `decode` answers each of its 512 lanes alone.
+--     laneBit strip j t             bit t of record j
+--     laneOf strip lost t           the word of lane t: 2 where the record is lost, else its bit
+--     repairForm, repairRefusals    the faults, in 01's order
+--     laneReply                     what `decode` answers lane t, and leaves in a buffer of 3N bytes
+--     isInconsistent, atLane        whether an answer is 2; what the strip then answers
+--     settledIn, openAt             the settled value at place j of lane t; whether record j is not settled
+--     repaired                      the repaired strip, then its marks
+--     stripReply, repairing         what a call answers and leaves in its buffer
+-- `s` is the sheet, `c` the ceiling, `lost` the marks (1 where a record is lost), `out` the buffer as found.
+use Prim.Native.Nat.{ℕ, _+_, _*_, _/_, _%_, _^_}
+use mathlib.Core.Bool.{Bool, not}
+use mathlib.Core.List.{List, [], _∷_, _++_, flatten}
+use lib.ListN.{length, getD, replicate}
 use lib.Dec.{eqb, ltb}
-use Rattle.bits.specs.Vectors.{bit, pick, any, tab, firstPlace}
+use Rattle.bits.specs.Vectors.{bit, pick, tab, firstPlace}
 use Rattle.bits.specs.Words.{bitAt}
 use Rattle.meaning.specs.Limits.{largestCeiling}
 use Rattle.meaning.specs.Sheet.{rules}
-use Rattle.meaning.specs.Codewords.{candidates}
-use Rattle.meaning.specs.Open.{unknowns, equations}
-use Rattle.meaning.specs.Strips.{settledAt, dimension}
-use Rattle.meaning.specs.Answers.{Refusal, _⇒_, firstOf, sheetRefusals, wordRefusals}
+use Rattle.meaning.specs.Open.{unknowns}
+use Rattle.meaning.specs.Answers.{Refusal, _⇒_, firstOf, sheetRefusals, wordRefusals, Reply, leaving, writing, numbersOf, decoding}
 use Rattle.meaning.specs.declared.Answer.{Answer}
-use Rattle.meaning.specs.declared.Answer.the-variants.{BadLength, BadCeiling, TooMany}
-use Rattle.strips.specs.declared.Verdict.{Verdict}
-use Rattle.strips.specs.declared.Verdict.the-variants.{Refused, Inconsistent, Whole, Partial}
+use Rattle.meaning.specs.declared.Answer.the-variants.{LaneInconsistent, BadLength, BadCeiling, TooMany}
+use Rattle.lanes.specs.Lanes.{upTo, packed}
 
-unfoldable pub recordSize : ℕ
-recordSize = 64
-
-unfoldable pub lanes : ℕ
-lanes = 512
+-- ---- lanes
 
 -- bit t mod 8 of byte t div 8 of record j
 abbrev pub laneBit : List ℕ → ℕ → ℕ → ℕ
@@ -39,70 +34,61 @@ laneBit strip j t = bitAt (getD strip (j * 64 + t / 8) 0) (t % 8)
 abbrev pub laneOf : List ℕ → List ℕ → ℕ → List ℕ
 laneOf strip lost t = tab (length lost) (λ (j : ℕ). pick (eqb (getD lost j 0) 0) (laneBit strip j t) 2)
 
--- the number of n bits, f 0 lowest
-abbrev pub packed : ℕ → (ℕ → ℕ) → ℕ
-packed zero f = 0
-packed (suc n) f = f 0 + packed n (λ (i : ℕ). f (suc i)) * 2
-
-abbrev pub upTo : ℕ → List ℕ
-upTo n = tab n (λ (i : ℕ). i)
-
 -- ---- refusals
 
--- the sheet's faults; 14: the strip or the list of marks is not as long as N asks for; 15: the first mark above 1; 16: less than 65 N bytes of output; 17
+-- the sheet's faults; 14: the strip is not 64N bytes, or there are not N marks; 15: the first mark above 1; 16: an output under 65N bytes; 17
 unfoldable pub repairForm : ℕ → List ℕ → ℕ → ℕ → ℕ → List ℕ → ℕ → List Refusal
 repairForm n s r c strip lost room =
     sheetRefusals n s r ++ ((not (eqb strip (2 ^ n * 64)) ⇒ BadLength) ∷ wordRefusals (2 ^ n) 1 (65 * 2 ^ n) lost room) ++ ((ltb largestCeiling c ⇒ BadCeiling) ∷ [])
 
--- then 18: g above the ceiling
+-- then 18: g above the ceiling; g is that of every lane
 unfoldable pub repairRefusals : ℕ → List ℕ → ℕ → ℕ → List ℕ → List ℕ → List ℕ → List Refusal
 repairRefusals n s r c strip lost out =
     let g = unknowns n (rules n s) (laneOf strip lost 0) in
     repairForm n s r c (length strip) lost (length out) ++ ((ltb c g ⇒ TooMany g) ∷ [])
 
--- ---- the answer
+-- ---- the reply, from those of the lanes
 
-pub record Told : Type 0 where
-  pub answer : Verdict
-  pub bytes : List ℕ
+-- its code is 2
+abbrev pub isInconsistent : Answer → Bool
+isInconsistent a = eqb (getD (numbersOf a) 0 0) 2
 
-abbrev pub told : List ℕ → Verdict → Told
-told out a = record { answer = a; bytes = out }
+-- 2, the lane, g, m
+abbrev pub atLane : ℕ → Answer → Answer
+atLane t a = LaneInconsistent t (getD (numbersOf a) 2 0) (getD (numbersOf a) 3 0)
 
-abbrev pub refusing : List ℕ → Answer → Told
-refusing out a = told out (Refused a)
+module _ (n : ℕ) (lane : ℕ → Reply) where
+  -- 0, 1, or 2 where candidates differ
+  abbrev pub settledIn : ℕ → ℕ → ℕ
+  settledIn t j = getD ((lane t) .bytes) j 0
 
--- none agrees
-abbrev pub isNil : {A : Type 0} → List A → Bool
-isNil [] = true
-isNil (a ∷ l) = false
-
--- the candidates of each lane are given
-module _ (n : ℕ) (cs : ℕ → List (List Bool)) where
-  -- whether record j is not settled: as in lane 0, so in each
+  -- as in lane 0, so in each (proofs/Promise: settled-alike)
   abbrev pub openAt : ℕ → Bool
-  openAt j = eqb (settledAt (cs 0) j) 2
+  openAt j = eqb (settledIn 0 j) 2
 
-  -- byte i of record j: 0 where it is not settled, else the settled bits of its eight lanes
+  -- byte i of a settled record: the settled bits of its eight lanes
   abbrev pub byteAt : ℕ → ℕ → ℕ
-  byteAt j i = pick (openAt j) 0 (packed 8 (λ (b : ℕ). settledAt (cs (8 * i + b)) j))
+  byteAt j i = packed 8 (λ (b : ℕ). settledIn (8 * i + b) j)
 
-  -- the strip, then the marks
+  -- zeros where it is not settled
+  abbrev pub recordAt : ℕ → List ℕ
+  recordAt j = pick (openAt j) (replicate 64 0) (tab 64 (byteAt j))
+
+  -- 64N bytes, then N marks, 1 for a record that is not settled
   abbrev pub repaired : List ℕ
-  repaired = tab (2 ^ n * 64) (λ (p : ℕ). byteAt (p / 64) (p % 64)) ++ tab (2 ^ n) (λ (j : ℕ). bit (openAt j))
+  repaired = flatten (tab (2 ^ n) recordAt) ++ tab (2 ^ n) (λ (j : ℕ). bit (openAt j))
 
-  abbrev pub firstEmpty : ℕ
-  firstEmpty = firstPlace (λ (t : ℕ). isNil (cs t)) (upTo 512)
+  -- 512 where no lane is inconsistent
+  abbrev pub firstBad : ℕ
+  firstBad = firstPlace (λ (t : ℕ). isInconsistent ((lane t) .answer)) (upTo 512)
 
-  -- the first lane with no candidate; else what is repaired, with later bytes as found
-  unfoldable pub repairVerdict : ℕ → ℕ → List ℕ → Told
-  repairVerdict g m out =
-      pick (ltb firstEmpty 512) (told out (Inconsistent firstEmpty g m))
-      (told (repaired ++ drop (65 * 2 ^ n) out) (pick (any openAt (upTo (2 ^ n))) (Partial g m (dimension (cs 0))) (Whole g m (dimension (cs 0)))))
+  -- 2 with the first inconsistent lane; else what any one lane is answered, and what is repaired, later bytes as found
+  unfoldable pub stripReply : List ℕ → Reply
+  stripReply out = pick (ltb firstBad 512) (leaving out (atLane firstBad ((lane firstBad) .answer))) (writing repaired out ((lane 0) .answer))
 
-unfoldable pub repairing : ℕ → List ℕ → ℕ → ℕ → List ℕ → List ℕ → List ℕ → Told
-repairing n s r c strip lost out =
-    let ks = rules n s in
-    let w = laneOf strip lost 0 in
-    firstOf (refusing out) (repairRefusals n s r c strip lost out)
-    (repairVerdict n (λ (t : ℕ). candidates n ks r (laneOf strip lost t)) (unknowns n ks w) (equations n ks r w) out)
+-- what `decode` answers lane t alone, given room
+abbrev pub laneReply : ℕ → List ℕ → ℕ → ℕ → List ℕ → List ℕ → ℕ → Reply
+laneReply n s r c strip lost t = decoding n s r c (laneOf strip lost t) (replicate (3 * 2 ^ n) 0)
+
+unfoldable pub repairing : ℕ → List ℕ → ℕ → ℕ → List ℕ → List ℕ → List ℕ → Reply
+repairing n s r c strip lost out = firstOf (leaving out) (repairRefusals n s r c strip lost out) (stripReply n (laneReply n s r c strip lost) out)

@@ -1,31 +1,10 @@
 // Rows made of the records of a strip.
 ghost use mathlib.Core.Path.{_≡_};
-ghost use Prim.Native.Nat.{_+_, _*_, _^_, _≤_, _<_};
+ghost use Prim.Native.Nat.{_+_, _*_, _≤_};
 ghost use lib.ListN.{length};
-ghost use Rattle.strips.specs.Placing.{le, PutLanes, Placed, lostSym, lostWord};
+ghost use Rattle.strips.specs.Placing.{PutLanes, Placed, lostSym, lostWord};
+use bits::octets;
 use bits::rows;
-
-// The number whose lowest byte is b, and x above it.
-fn push(x: u64, b: u8) -> u64
-    requires { ⌜ x < 2 ^ 56 ⌝ }
-    ensures { λ r. ⌜ r ≡ b + x * 256 ⌝ }
-{
-    b as u64 + x * 256
-}
-
-// The eight bytes from `at` on as a number, the first lowest.
-fn word_at(strip: &[u8], at: usize) -> u64
-    requires { ⌜ at + 8 ≤ length (now strip) ⌝ }
-    ensures { λ r. ⌜ r ≡ le 8 (now (strip .entry)) at ⌝ }
-{
-    let mut x = 0;
-    let mut i = 8;
-    while i > 0 {
-        i -= 1;
-        x = push(x, strip[at + i]);
-    }
-    x
-}
 
 // The eight words of the record whose bytes start at `at` go to `to`.
 fn put(vals: &mut [u64], to: usize, strip: &[u8], at: usize)
@@ -34,7 +13,7 @@ fn put(vals: &mut [u64], to: usize, strip: &[u8], at: usize)
 {
     let mut k = 0;
     while k < 8 {
-        vals[to + k] = word_at(strip, at + 8 * k);
+        vals[to + k] = octets::eight(strip, at + 8 * k);
         k += 1;
     }
 }

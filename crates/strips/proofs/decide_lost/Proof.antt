@@ -1,10 +1,9 @@
-use mathlib.Core.Path.{_≡_, sym, ap, _∙_, subst}
+use mathlib.Core.Path.{sym, ap, subst, _∙_}
 use Prim.Native.Nat.{ℕ}
 use mathlib.Core.List.{List}
 use lib.ListN.{length}
 use Rattle.strips.specs.Deciding.{repairDeciding, Formed}
 use borrow.Author.Needs.{needs}
-use native.Mathlib.Omega.{arith}
 use Rattle.strips.proofs.decide_lost.Statement.{statement}
 use Rattle.strips.proofs.decide_lost.Tie as tie
 
@@ -12,7 +11,10 @@ erase-requires : tie.Need-erase-requires
 erase-requires c κs = search needs
 
 decide-requires : tie.Need-decide-requires
-decide-requires c κs = let S = c .before .before .before .before .before .before .before .before .before .before .before .before .before .before .before .before .before in let A = S .args in let E = c .before .before .before .before .before .before .before .erase in (subst (λ (l : List ℕ). Formed (A .n) (A .sheet .now) (A .r) (A .ceiling) (length (A .strip .now)) (length l) (length (A .out .now))) (sym (E .ensures)) (S .pre .0 .0), S .pre .1)
+decide-requires c κs =
+    let S = c .before .before .before .before .before .before .before .before .before .before .before in
+    let A = S .args in
+    subst (λ (l : List ℕ). Formed (A .n) (A .sheet .now) (A .r) (A .ceiling) (length (A .strip .now)) (length l) (length (A .out .now))) (sym (c .before .before .before .before .erase .ensures)) (S .pre .0)
 
 same-length : tie.Need-same-length
 same-length c = search needs
@@ -20,27 +22,10 @@ same-length c = search needs
 same-length-2 : tie.Need-same-length-2
 same-length-2 c = search needs
 
-same-length-3 : tie.Need-same-length-3
-same-length-3 c = search needs
-
-same-length-4 : tie.Need-same-length-4
-same-length-4 c = search needs
-
-same-length-5 : tie.Need-same-length-5
-same-length-5 c = search needs
-
 returns : tie.Need-returns
-returns c = let A = c .before .before .before .before .before .before .before .before .before .before .before .before .before .before .before .before .before .before .before .before .before .before .before .before .before .before .args in c .before .before .before .before .before .before .before .before .decide .ensures ∙ ap (λ (l : List ℕ). repairDeciding (A .n) (A .sheet .now) (A .r) (A .ceiling) (A .strip .now) l (A .out .now)) (c .before .before .before .before .before .before .before .before .before .before .before .before .before .before .before .before .erase .ensures)
+returns c =
+    let A = c .before .before .before .before .before .before .before .before .before .before .before .before .before .before .args in
+    c .before .before .decide .ensures ∙ ap (λ (l : List ℕ). repairDeciding (A .n) (A .sheet .now) (A .r) (A .ceiling) (A .strip .now) l (A .out .now)) (c .before .before .before .before .before .before .before .erase .ensures)
 
 pub decide-lost-spec : {M : Type 1} → statement M
-decide-lost-spec =
-    tie.close
-    (tie.spec
-    erase-requires
-    decide-requires
-    same-length
-    same-length-2
-    same-length-3
-    same-length-4
-    same-length-5
-    returns)
+decide-lost-spec = tie.close (tie.spec erase-requires decide-requires same-length same-length-2 returns)

@@ -1,6 +1,5 @@
-use mathlib.Core.Path.{_≡_, refl, sym, ap, _∙_}
-use Prim.Native.Nat.{ℕ, _-_, _≤_}
-use lib.ListN.{length, length-set}
+use Prim.Native.Nat.{_-_, _≤_}
+use Rattle.bits.proofs.Joining.{eight-there}
 use Rattle.strips.proofs.Loops.{PutUpTo, put-start, put-turn, put-end}
 use borrow.Author.Needs.{needs}
 use native.Mathlib.Omega.{arith}
@@ -16,14 +15,14 @@ abbrev μ-loop : tie.MeasureT-loop
 loop-holds : tie.Need-loop-holds Inv-loop μ-loop
 loop-holds c = (omega arith, put-start _ _ _ _)
 
-mul-word-at : tie.Need-mul-word-at Inv-loop μ-loop
-mul-word-at c = omega arith
+mul-eight : tie.Need-mul-eight Inv-loop μ-loop
+mul-eight c = omega arith
 
-add-word-at : tie.Need-add-word-at Inv-loop μ-loop
-add-word-at c = omega arith
+add-eight : tie.Need-add-eight Inv-loop μ-loop
+add-eight c = omega arith
 
-word-at-requires : tie.Need-word-at-requires Inv-loop μ-loop
-word-at-requires c κs = omega arith
+eight-requires : tie.Need-eight-requires Inv-loop μ-loop
+eight-requires c κs = search needs
 
 add-vals : tie.Need-add-vals Inv-loop μ-loop
 add-vals c = omega arith
@@ -41,13 +40,15 @@ loop-less : tie.Need-loop-less Inv-loop μ-loop
 loop-less c = omega arith
 
 loop-again : tie.Need-loop-again Inv-loop μ-loop
-loop-again c = let L = c .before .before .loop in (omega arith, put-turn (L .inv .1) (c .before .loop-test .taken) (c .before .before .before .before .before .pre .0) (c .word-at .ensures) (simp length-set (L .inv .1 .size)))
+loop-again c =
+    let h = c .before .loop-test .taken in
+    (omega arith, put-turn (c .before .before .loop .inv .1) h (c .before .before .before .before .before .pre .0) (eight-there _ _ _ (omega (arith, h, c .before .before .before .before .before .pre .1)) (c .eight .ensures)))
 
 same-length : tie.Need-same-length Inv-loop μ-loop
 same-length c = c .before .loop .inv .1 .size
 
 returns : tie.Need-returns Inv-loop μ-loop
-returns c = put-end (c .before .loop .inv .1) (omega arith)
+returns c = put-end (c .before .loop .inv .1) (c .loop-test .left)
 
 pub put-spec : {M : Type 1} → statement M
 put-spec =
@@ -56,9 +57,9 @@ put-spec =
     Inv-loop
     μ-loop
     loop-holds
-    mul-word-at
-    add-word-at
-    word-at-requires
+    mul-eight
+    add-eight
+    eight-requires
     add-vals
     mul-vals
     slice-write-vals

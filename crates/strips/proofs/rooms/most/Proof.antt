@@ -1,0 +1,35 @@
+use Rattle.strips.specs.Rooms.{mostWords}
+use Rattle.meaning.specs.Limits.{largestN, largestCeiling}
+use borrow.Author.Needs.{needs}
+use Rattle.strips.proofs.rooms.most.Statement.{statement}
+use Rattle.strips.proofs.rooms.most.Tie as tie
+
+slice-aggregate-within : tie.Need-slice-aggregate-within
+slice-aggregate-within c = search needs
+
+slice-aggregate-within-2 : tie.Need-slice-aggregate-within-2
+slice-aggregate-within-2 c = search needs
+
+slice-aggregate-within-3 : tie.Need-slice-aggregate-within-3
+slice-aggregate-within-3 c = search needs
+
+within-requires : tie.Need-within-requires
+unfolding largestN largestCeiling mostWords
+within-requires c κs = let (f, p) = c .before .before .before .before .before .before .before .before .pre in (f, (p .0, p .1, p .2, p .2, p .2))
+
+same-length : tie.Need-same-length
+same-length c = search needs
+
+returns : tie.Need-returns
+returns c = c .before .before .before .before .before .within .ensures
+
+pub most-spec : {M : Type 1} → statement M
+most-spec =
+    tie.close
+    (tie.spec
+    slice-aggregate-within
+    slice-aggregate-within-2
+    slice-aggregate-within-3
+    within-requires
+    same-length
+    returns)
