@@ -1,11 +1,12 @@
 -- A block of 2 ^ k slots by its halves, and the part of a list from h on, as the borrow checker lends it and takes it back.
 --     half-of                       both halves have 2 ^ (k - 1) slots
+--     front                         the part from the start
 --     from, from-length, back       the part from h on; its length; the list once the part has come back as b
 --     from-back                     the part from h on, once the part before h has come back as a
 use mathlib.Core.Path.{_≡_, refl, ap, _∙_}
 use Prim.Native.Nat.{ℕ, zero, suc, _+_, _-_, _/_, _^_, _≤_}
 use native.Mathlib.Omega.{arith}
-use native.Mathlib.Nat.{pow-suc}
+use native.Mathlib.Nat.{pow-suc, sub-zero}
 use mathlib.Core.List.{List, _++_, append-nil}
 use lib.ListN.{length, take, drop, length-drop, drop-of-length-le}
 use lib.Seq.{take-all, drop-at}
@@ -19,6 +20,9 @@ two-pow (suc m) p =
 
 pub half-of : (k m : ℕ) → (k ≡ 0 → ⊥) → m ≡ 2 ^ k → (m ≡ m / 2 + m / 2) × (m / 2 ≡ 2 ^ (k - 1))
 half-of k m p e = let q = two-pow k p in (omega arith, omega arith)
+
+pub front : (k : ℕ) (l : List ℕ) → take (k - 0) l ≡ take k l
+front k l = ap (λ (j : ℕ). take j l) (sub-zero k)
 
 pub from : (l : List ℕ) (h : ℕ) → take (length l - h) (drop h l) ≡ drop h l
 from l h = take-all (length l - h) (drop h l) (simp length-drop (omega arith))

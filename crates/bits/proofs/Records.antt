@@ -1,18 +1,19 @@
 -- Records of one length, end to end.
 --     flatten-append, flatten-one, flatten-each     lists made flat: of two lists, of one record, at once or one by one
 --     wide-tab          a table of records of one length
+--     record-of         record k of bytes that start with records
 --     put-record        the next record put behind those before it
 use mathlib.Core.Path.{_≡_, refl, sym, ap, ap₂, _∙_}
-use Prim.Native.Nat.{ℕ, zero, suc, _+_, _-_, _*_}
+use Prim.Native.Nat.{ℕ, zero, suc, _+_, _-_, _*_, _<_}
 use native.Mathlib.Omega.{arith}
 use mathlib.Core.List.{List, [], _∷_, _++_, map, flatten, append-assoc, append-nil}
-use lib.ListN.{length, drop}
+use lib.ListN.{length, drop, getD}
 use lib.Seq.{drop-drop}
 use borrow.Rule.Slice.PartMut.{putMid}
 use Rattle.bits.specs.Vectors.{tab}
-use Rattle.bits.specs.Rows.{Wide}
-use Rattle.bits.proofs.Tests.{length-tab, tab-snoc}
-use Rattle.bits.proofs.RowLaws.{length-flatten, put-behind}
+use Rattle.bits.specs.Rows.{Wide, row}
+use Rattle.bits.proofs.Tests.{length-tab, tab-at, tab-snoc}
+use Rattle.bits.proofs.RowLaws.{length-flatten, rows-front, put-behind}
 
 pub flatten-append : {A : Type 0} (a b : List (List A)) → flatten (a ++ b) ≡ flatten a ++ flatten b
 unfolding flatten
@@ -31,6 +32,10 @@ flatten-each {B = B} f (a ∷ l) = flatten-append (f a) (flatten (map f l)) ∙ 
 pub wide-tab : (w k : ℕ) (f : ℕ → List ℕ) → ((i : ℕ) → length (f i) ≡ w) → Wide w (tab k f)
 wide-tab w zero f h = tt
 wide-tab w (suc k) f h = (h 0, wide-tab w k (λ (i : ℕ). f (suc i)) (λ i. h (suc i)))
+
+pub record-of : (w : ℕ) (rs : List (List ℕ)) (later : List ℕ) → Wide w rs → (k : ℕ) → k < length rs → row w (flatten rs ++ later) k ≡ getD rs k []
+record-of w rs later h k l =
+    sym (tab-at (length rs) (row w (flatten rs ++ later)) k [] l) ∙ ap (λ (t : List (List ℕ)). getD t k []) (rows-front w rs later h)
 
 module _ (A : ℕ) (f : ℕ → List ℕ) (h : (i : ℕ) → length (f i) ≡ A) (o : List ℕ) where
   tab-long : (i : ℕ) → length (flatten (tab i f)) ≡ i * A

@@ -8,7 +8,7 @@ use native.Mathlib.Omega.{arith}
 use native.Mathlib.Nat.{zero-add, suc-add}
 use mathlib.Core.Bool.{Bool, true, false, _&&_, _||_, false≢true, true≢false}
 use mathlib.Core.List.{List, [], _∷_, _++_, map, Sublistᴰ, Sublistᴰ·slnil, Sublistᴰ·cons, Sublistᴰ·cons-cons, List·Memᴰ, List·Memᴰ·head, List·Memᴰ·tail, List·Memᴰ·not-nil, List·Memᴰ·cases-cons}
-use lib.ListN.{length, drop, getD, drop-of-length-le}
+use lib.ListN.{length, drop, getD, replicate, drop-of-length-le}
 use lib.Seq.{drop-cons}
 use Rattle.bits.specs.Vectors.{filter, keep, any, all, count, bit, pick, firstPlace, tab}
 
@@ -176,6 +176,10 @@ tab-append {A} (suc m) n f = rw (suc-add m n) (ap {B = List A} (λ t. f zero ∷
 pub tab-snoc : {A : Type 0} (n : ℕ) (f : ℕ → A) → tab (n + 1) f ≡ tab n f ++ (f n ∷ [])
 tab-snoc zero f = refl
 tab-snoc {A} (suc n) f = rw (suc-add n 1) (ap {B = List A} (λ r. f zero ∷ r) (tab-snoc n (λ (i : ℕ). f (suc i))))
+
+pub tab-same : {A : Type 0} (n : ℕ) (x : A) → tab n (λ (i : ℕ). x) ≡ replicate n x
+tab-same zero x = refl
+tab-same {A} (suc n) x = ap {B = List A} (λ r. x ∷ r) (tab-same n x)
 
 -- ---- a search from the front: what is left to do at place i
 

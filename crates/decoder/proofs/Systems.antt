@@ -8,7 +8,7 @@ use Prim.Native.Nat.{ℕ, _+_, _*_, _/_, _^_, _≤_, _<_}
 use native.Mathlib.Omega.{arith}
 use native.Mathlib.Nat.{add-mul, mul-div-cancel, mul-le-mul-left}
 use mathlib.Core.Bool.{Bool, true}
-use mathlib.Core.List.{List, [], _∷_, _++_, flatten, append-assoc}
+use mathlib.Core.List.{List, [], _∷_, _++_, flatten}
 use lib.ListN.{length, take, drop, length-append}
 use lib.Seq.{take-at}
 use borrow.Author.Tests.{eq-eqb, le-leb, lt-ltb}
@@ -16,6 +16,7 @@ use Rattle.bits.specs.Rows.{Row, Wide}
 use Rattle.bits.specs.Rows as bits
 use Rattle.bits.proofs.Tests.{and-i, length-tab}
 use Rattle.bits.proofs.RowLaws.{rows-flatten, flatten-rows, wide-rows, length-flatten}
+use Rattle.bits.proofs.Records.{flatten-append}
 use Rattle.gf2.specs.Rows.{rowsOf}
 use Rattle.gf2.specs.Solve.{solve}
 use Rattle.verdict.specs.Reading.{rowVerdict}
@@ -37,11 +38,6 @@ all-rows wd k l h e = e ∙ ap (λ (t : ℕ). t * wd) (sym (many-rows wd k l h e
 
 pub few-rows : (wd k l : ℕ) → 0 < wd → k * wd ≤ l → k ≤ l
 few-rows wd k l h e = let p : k * 1 ≤ k * wd = mul-le-mul-left k h in omega arith
-
-flatten-append : (a b : List Row) → flatten (a ++ b) ≡ flatten a ++ flatten b
-unfolding flatten
-flatten-append [] b = refl
-flatten-append (x ∷ a) b = ap {B = List ℕ} (λ t. x ++ t) (flatten-append a b) ∙ sym (append-assoc x (flatten a) (flatten b))
 
 wide-append : (w : ℕ) (a b : List Row) → Wide w a → Wide w b → Wide w (a ++ b)
 wide-append w [] b p q = q

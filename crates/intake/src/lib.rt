@@ -62,3 +62,22 @@ pub fn goes_on(written: bool, got: usize, len: usize) -> bool
 {
     written && got == len
 }
+
+// Reads a file into buf, as far as it has room, and answers how many bytes. Where it cannot be opened or read to its end, says
+// why on standard error, behind `label`, and answers 0.
+pub fn load(path: &[u8], label: &[u8], buf: &mut [u8]) -> usize
+    ensures { λ r. ⌜ r ≤ length (now (buf .exit)) ⌝ }
+{
+    let fd = os::open_read(path);
+    if !opened(fd) {
+        os::fail(label);
+        return 0;
+    }
+    let got = read(fd, buf);
+    let all = whole(got.n, buf.len(), got.last);
+    if !all {
+        os::fail(label);
+    }
+    libc::close(fd);
+    counted(all, got.n)
+}

@@ -17,6 +17,8 @@
 --     Holding                   a sheet that holds nothing is refused; any other that passes holds something
 --     Stuck                     a stuck run of leading zeros is caught
 --     Determined                a promise allows one result; what is refused leaves the buffer as found
+--     Heading                   the bytes of an answer record before its strips
+--     Cutting                   an input cut into pieces
 --     Bench                     the starred examples
 pub mod Polar
 pub mod Formula
@@ -43,4 +45,6 @@ pub mod ReadBack
 pub mod Holding
 pub mod Stuck
 pub mod Determined
+pub mod Heading
+pub mod Cutting
 pub mod Bench

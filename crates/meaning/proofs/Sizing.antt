@@ -1,4 +1,5 @@
 -- The search for the n of a sheet, from its length, in any layout.
+--     size-most       the search ends one past the largest n, at the latest
 --     size-right      an n that is found is that of the sheet's length
 --     Left, size-start, size-found, size-next, size-none     what is left to search: all, n is it, one less, nothing
 use mathlib.Core.Path.{_≡_, sym, ap, _∙_}
@@ -12,7 +13,7 @@ use lib.ListN.{length, drop, getD}
 use lib.Dec.{eqb}
 use borrow.Author.Tests.{eqb-true, eq-eqb, ne-eqb}
 use Rattle.bits.specs.Vectors.{tab, firstPlace}
-use Rattle.bits.proofs.Tests.{tab-at, length-tab, place-passes, place-found, place-next, place-end}
+use Rattle.bits.proofs.Tests.{tab-at, length-tab, place-passes, place-found, place-next, place-end, place-le}
 use Rattle.meaning.specs.Limits.{Layout}
 use Rattle.meaning.specs.Stream.{sizeIn}
 
@@ -22,6 +23,9 @@ module _ (L : Layout) (s : List ℕ) where
 
   abbrev sizes : List ℕ
   sizes = tab (suc (L .largest)) (λ (n : ℕ). n)
+
+  pub size-most : sizeIn L s ≤ suc (L .largest)
+  size-most = omega (arith, place-le has sizes, length-tab (suc (L .largest)) (λ (n : ℕ). n))
 
   pub size-right : sizeIn L s ≤ L .largest → length s ≡ 2 ^ sizeIn L s * L .bytes
   size-right h =

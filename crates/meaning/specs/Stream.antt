@@ -3,10 +3,11 @@
 --     header a             the bytes of an answer record before its strips
 --     answerRecord         the record of one word
 --     sizeOf s             the n of a sheet, from its length; sizeIn L s, in any layout
+--     roundedUp, pieceAt, pieceEnd     an input cut into pieces of L bytes: how many, piece k, and where it ends; wordAt, the words
 --     records              all records that an input gets
 --     streaming            what the call answers and leaves in its buffer
 -- `s` is the sheet, `ch` the choice (two bytes: r, ceiling), `input` the words end to end.
-use Prim.Native.Nat.{ℕ, suc, _+_, _*_, _-_, _/_, _%_, _^_}
+use Prim.Native.Nat.{ℕ, suc, min, _+_, _*_, _-_, _/_, _%_, _^_}
 use mathlib.Core.Bool.{not}
 use mathlib.Core.List.{List, [], _∷_, _++_, map, flatten}
 use lib.ListN.{length, take, drop, getD, replicate}
@@ -56,13 +57,21 @@ sizeIn L s = firstPlace (λ (n : ℕ). eqb (length s) (2 ^ n * L .bytes)) (tab (
 unfoldable pub sizeOf : List ℕ → ℕ
 sizeOf s = sizeIn layout s
 
--- input bytes divided by N, rounded up
+-- input bytes divided by N, rounded up; 0 for an N of 0
 unfoldable pub roundedUp : ℕ → ℕ → ℕ
 roundedUp a b = (a + (b - 1)) / b
 
--- word k of N symbols; the last may be short
-unfoldable pub wordAt : ℕ → List ℕ → ℕ → List ℕ
-wordAt n input k = take (2 ^ n) (drop (k * 2 ^ n) input)
+-- piece k of L bytes; the last may be short
+unfoldable pub pieceAt : ℕ → List ℕ → ℕ → List ℕ
+pieceAt L input k = take L (drop (k * L) input)
+
+-- where piece k of an input of `len` bytes ends
+unfoldable pub pieceEnd : ℕ → ℕ → ℕ → ℕ
+pieceEnd L len k = min ((k + 1) * L) len
+
+-- word k of N symbols
+abbrev pub wordAt : ℕ → List ℕ → ℕ → List ℕ
+wordAt n input k = pieceAt (2 ^ n) input k
 
 -- record k is the answer to word k
 unfoldable pub records : List ℕ → List ℕ → List ℕ → List (List ℕ)

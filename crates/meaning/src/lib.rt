@@ -1,8 +1,10 @@
 // What the vault's calls answer, and the numbers of 01-scope.md that each answer stands for.
 ghost use mathlib.Core.Path.{_≡_};
 ghost use Rattle.meaning.specs.Answers.{numbersOf, isDone};
+ghost use Rattle.meaning.specs.Stream.{header};
 
 pub mod limits;
+pub mod pieces;
 
 // An answer: one case for each row of 01's table, `Done`, the 0 of the calls that have no verdict, and the 2 of a strip.
 pub enum Answer {
@@ -56,6 +58,31 @@ pub fn numbers(a: Answer) -> [usize; 5]
         Answer::TooMany { g } => [18, 0, g, 0, 0],
         Answer::HoldsNothing => [19, 0, 0, 0, 0],
     }
+}
+
+// The first 16 bytes of an answer's record: code, place, g, m, d, two bytes each, low first, then six zeros.
+pub fn header(a: Answer) -> [u8; limits::HEAD]
+    ensures { λ r. ⌜ r ≡ header a ⌝ }
+{
+    let v = numbers(a);
+    [
+        (v[0] % 256) as u8,
+        (v[0] / 256 % 256) as u8,
+        (v[1] % 256) as u8,
+        (v[1] / 256 % 256) as u8,
+        (v[2] % 256) as u8,
+        (v[2] / 256 % 256) as u8,
+        (v[3] % 256) as u8,
+        (v[3] / 256 % 256) as u8,
+        (v[4] % 256) as u8,
+        (v[4] / 256 % 256) as u8,
+        0,
+        0,
+        0,
+        0,
+        0,
+        0,
+    ]
 }
 
 // Whether an answer is Done, so that a call can go on.

@@ -1,19 +1,20 @@
 -- The records of a run have room, and so has one record; what is filled in lies within the output.
 use mathlib.Core.Path.{_≡_, refl, sym, ap, _∙_}
 use Prim.Native.Nat.{ℕ, _-_, _*_, _%_, _^_, _≤_}
-use native.Mathlib.Nat.{le-trans, le-of-eq, mul-le-mul-right, sub-zero}
+use native.Mathlib.Nat.{le-trans, le-of-eq, mul-le-mul-right}
 use native.Mathlib.Omega.{arith}
 use mathlib.Core.List.{List, [], _++_, flatten}
-use lib.ListN.{length, take, drop, length-append}
+use lib.ListN.{length, drop, length-append}
 use lib.Pow.{pow-pos, pow-mono}
 use Rattle.meaning.specs.Limits.{largestN}
 use Rattle.meaning.specs.Answers.{leaving}
 use Rattle.meaning.specs.Stream.{answerBytes, sizeOf, roundedUp, records, streaming}
 use Rattle.meaning.specs.declared.Answer.{Answer}
 use Rattle.bits.proofs.RowLaws.{length-flatten}
+use Rattle.meaning.proofs.Cutting.{rounded-few}
 use Rattle.stream.proofs.Streaming.{records-wide}
 use Rattle.stream.proofs.Promise.{room-written}
-use Rattle.stream.proofs.Counting.{counted, rounded-few}
+use Rattle.stream.proofs.Counting.{counted}
 use Rattle.recover.specs.Runs.{runWords, Ready, Filled}
 
 pub run-room : (s ch : List ℕ) (run room : ℕ) → Ready s ch run room → (input : List ℕ) → length input ≤ run → length (records s ch input) * answerBytes ≤ room
@@ -45,10 +46,6 @@ pub ready-same : (s ch : List ℕ) (run run′ room room′ : ℕ) → run′ �
 ready-same s ch run run′ room room′ e q ok = rw (e, q) ok
 
 -- ---- what is filled in
-
--- a part from the start, as the code lends it
-pub lent-is : (k : ℕ) (l : List ℕ) → take (k - 0) l ≡ take k l
-lent-is k l = ap (λ (j : ℕ). take j l) (sub-zero k)
 
 -- what `answer` leaves, given room
 pub filled-in : (s ch words found out : List ℕ) (a : Answer) (k : ℕ) (lent : List ℕ) → lent ≡ words → leaving out a ≡ streaming s ch lent found

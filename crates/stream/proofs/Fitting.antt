@@ -2,7 +2,6 @@
 --     by-rows              a fact of whatever a table of refusals gives
 --     keeps-length         decoding leaves a buffer of the same length
 --     fits-two-bytes       each of its five numbers is below 65536
---     numbers-five         there are five
 use mathlib.Core.Path.{_≡_, refl, sym, ap, _∙_}
 use mathlib.Core.Logic.{_⊎_, inl, inr}
 use Prim.Native.Nat.{ℕ, _+_, _-_, _*_, _^_, _≤_, _<_}
@@ -20,9 +19,7 @@ use Rattle.meaning.specs.Sheet.{Rule, free, frozen, rules, badRecord}
 use Rattle.meaning.specs.Codewords.{candidates}
 use Rattle.meaning.specs.Open.{openFree, closedFrozen, openAll, unknowns, equations}
 use Rattle.meaning.specs.Strips.{settledAt, settled, last, strips, dimension}
-use Rattle.meaning.specs.Answers.{Refusal, firstOf, refuses, Reply, leaving, numbersOf, sheetRefusals, wordRefusals, formRefusals, decodeRefusals, verdict, decoding}
-use Rattle.meaning.specs.declared.Answer.{Answer}
-use Rattle.meaning.specs.declared.Answer.the-variants.{Done, Unique, Ambiguous, Inconsistent, LaneInconsistent, BadShape, BadRecord, BadCheck, BadLength, BadSymbol, ShortOutput, BadCeiling, TooMany, HoldsNothing}
+use Rattle.meaning.specs.Answers.{Refusal, firstOf, refuses, Reply, leaving, sheetRefusals, wordRefusals, formRefusals, decodeRefusals, verdict, decoding}
 use Rattle.meaning.proofs.Sound.{length-rules}
 use Rattle.meaning.proofs.Candidates.{candidate}
 use Rattle.meaning.proofs.Polar.{length-polar}
@@ -87,22 +84,6 @@ keeps-length n s r c w out = go (refuses (decodeRefusals n s r c w out)) refl
         ∙ verdict-long n _ _ cs out (candidate-long n (rules n s) r w) (worded _ _ _ w (length out) word .roomy)
 
 -- ---- the numbers
-
-pub numbers-five : (a : Answer) → length (numbersOf a) ≡ 5
-numbers-five Done = refl
-numbers-five (Unique g m) = refl
-numbers-five (Ambiguous g m d) = refl
-numbers-five (Inconsistent g m) = refl
-numbers-five (LaneInconsistent t g m) = refl
-numbers-five BadShape = refl
-numbers-five (BadRecord i) = refl
-numbers-five BadCheck = refl
-numbers-five BadLength = refl
-numbers-five (BadSymbol i) = refl
-numbers-five ShortOutput = refl
-numbers-five BadCeiling = refl
-numbers-five (TooMany g) = refl
-numbers-five HoldsNothing = refl
 
 open-few : (ks : List Rule) (o : List Bool) → ones (openFree ks o) ≤ length ks
 open-few [] o = omega arith

@@ -1,5 +1,4 @@
 -- A record in the parts that the code writes.
---     headed, header-long        the five numbers as two bytes each, and zeros behind them
 --     drop-blank, take-blank     blank bytes past the first, and the first
 --     laid-one .. laid-all       the strips, one after the other
 --     put-whole                  a record: its numbers, then its strips
@@ -8,35 +7,17 @@ use mathlib.Core.Path.{_≡_, refl, sym, ap, ap₂, subst, _∙_}
 use Prim.Native.Nat.{ℕ, zero, suc, _+_, _-_, _*_, _^_, _≤_}
 use native.Mathlib.Omega.{arith}
 use lib.Pow.{pow-mono}
-use mathlib.Core.List.{List, [], _∷_, _++_, map, flatten, append-assoc, append-nil}
-use lib.ListN.{length, take, drop, getD, replicate, length-append, length-take, length-drop, length-replicate}
+use mathlib.Core.List.{List, [], _∷_, _++_, append-assoc, append-nil}
+use lib.ListN.{length, take, drop, replicate, length-append, length-take, length-drop, length-replicate}
 use lib.Seq.{take-all, drop-at, take-length}
 use borrow.Rule.Slice.PartMut.{putMid, postOf}
-use Rattle.bits.specs.Vectors.{tab}
-use Rattle.bits.proofs.Tests.{tab-getD}
 use Rattle.bits.proofs.RowLaws.{put-behind}
-use Rattle.meaning.specs.Limits.{largestN, headBytes, stripWidth}
-use Rattle.meaning.specs.Answers.{numbersOf, Reply, leaving, decoding}
-use Rattle.meaning.specs.Stream.{twoBytes, header, padded, answerRecord}
+use Rattle.meaning.specs.Limits.{largestN, stripWidth}
+use Rattle.meaning.specs.Answers.{Reply, leaving, decoding}
+use Rattle.meaning.specs.Stream.{header, padded, answerRecord}
 use Rattle.meaning.specs.declared.Answer.{Answer}
 use Rattle.stream.specs.Laying.{Small, laid}
-use Rattle.stream.proofs.Fitting.{numbers-five, fits-two-bytes, keeps-length}
-
--- ---- the numbers
-
-module _ (a : Answer) (v : List ℕ) (e : v ≡ numbersOf a) where
-  five : length v ≡ 5
-  five = ap length e ∙ numbers-five a
-
-  pub headed : flatten (tab 5 (λ (i : ℕ). twoBytes (getD v i 0))) ++ replicate (headBytes - 10) 0 ≡ header a
-  unfolding flatten
-  headed =
-      let t : tab 5 (λ (i : ℕ). getD v i 0) ≡ v = subst (λ (k : ℕ). tab k (λ (i : ℕ). getD v i 0) ≡ v) five (tab-getD v 0 (λ (i : ℕ). getD v i 0) (λ i l. refl)) in
-      ap (λ (l : List ℕ). flatten (map twoBytes l) ++ replicate (headBytes - 10) 0) (t ∙ e)
-
-pub header-long : (a : Answer) → length (header a) ≡ headBytes
-unfolding flatten headBytes
-header-long a = ap length (sym (headed a (numbersOf a) refl))
+use Rattle.stream.proofs.Fitting.{fits-two-bytes, keeps-length}
 
 -- ---- parts put one behind the other
 

@@ -10,62 +10,35 @@
 --     cut-all                         and so are the bytes that a call for each part leaves: what `recover` writes, by runs of whole words and then
 --                                     the rest, are the bytes of one call on the whole input
 use mathlib.Core.Path.{_≡_, refl, sym, ap, ap₂, _∙_}
-use Prim.Native.Nat.{ℕ, _+_, _-_, _*_, _/_, _%_, _^_, _≤_, _<_}
+use Prim.Native.Nat.{ℕ, _*_, _^_, _≤_, _<_}
 use native.Mathlib.Omega.{arith}
-use native.Mathlib.Nat.{mul-add-div-right, div-eq-of-lt, add-zero, add-mul, div-add-mod'}
 use mathlib.Core.Bool.{Bool, true, false, true≢false}
-use mathlib.Core.List.{List, [], _∷_, _++_, map, flatten, append-assoc}
-use lib.ListN.{length, take, drop, getD, length-append, length-drop}
+use mathlib.Core.List.{List, [], _∷_, _++_, map, flatten}
+use lib.ListN.{length, take, drop, getD}
 use lib.Dec.{ltb}
 use borrow.Author.Tests.{lt-ltb, le-ltb}
 use lib.Pow.{pow-pos}
-use lib.Seq.{take-append-le, drop-append-le, drop-append-add, take-at}
-use Rattle.bits.specs.Vectors.{tab, pick}
-use Rattle.bits.specs.Rows.{row, rows}
-use Rattle.bits.proofs.Tests.{length-tab, tab-at, tab-append, tab-below}
-use Rattle.bits.proofs.RowLaws.{row-fit, rows-front, length-flatten}
+use lib.Seq.{take-at}
+use Rattle.bits.specs.Vectors.{pick}
+use Rattle.bits.specs.Rows.{row}
+use Rattle.bits.proofs.Tests.{length-tab, tab-at}
+use Rattle.bits.proofs.RowLaws.{length-flatten}
+use Rattle.bits.proofs.Records.{flatten-append, record-of}
 use Rattle.meaning.specs.Limits.{largestN}
 use Rattle.meaning.specs.Answers.{Reply, isDone, leaving, writing}
 use Rattle.meaning.specs.Stream.{answerBytes, answerRecord, sizeOf, roundedUp, wordAt, records, streaming}
 use Rattle.meaning.specs.declared.Answer.{Answer}
 use Rattle.meaning.specs.declared.Answer.the-variants.{Done, ShortOutput}
 use Rattle.meaning.proofs.Determined.{reply-determined}
+use Rattle.meaning.proofs.Cutting.{WholePieces, pieces-cut, cut-list, cut-flat}
 use Rattle.stream.proofs.Counting.{records-words}
-use Rattle.stream.proofs.Streaming.{recordAt, records-wide, flatten-append}
+use Rattle.stream.proofs.Streaming.{recordAt, records-wide}
 
 pub stream-determined : (s ch input out x x′ : List ℕ) (a a′ : Answer) → leaving x a ≡ streaming s ch input out → leaving x′ a′ ≡ streaming s ch input out → (a ≡ a′) × (x ≡ x′)
 stream-determined s ch input out x x′ a a′ p q = reply-determined a a′ x x′ (streaming s ch input out) p q
 
--- ---- the words of an input
-
-module _ (n : ℕ) (a b : List ℕ) (m : ℕ) (la : length a ≡ m * 2 ^ n) where
-  -- a word of the first part
-  pub word-front : (i : ℕ) → i < m → wordAt n (a ++ b) i ≡ wordAt n a i
-  unfolding wordAt
-  word-front i h =
-      let l : i * 2 ^ n + 2 ^ n ≤ length a = omega (arith, la, row-fit i m (2 ^ n) h) in
-      ap (take (2 ^ n)) (drop-append-le (i * 2 ^ n) a b (omega arith)) ∙ take-append-le (2 ^ n) (drop (i * 2 ^ n) a) b (simp length-drop (omega arith))
-
-  -- a word of the second part
-  pub word-back : (i : ℕ) → wordAt n (a ++ b) (m + i) ≡ wordAt n b i
-  unfolding wordAt
-  word-back i =
-      let e : (m + i) * 2 ^ n ≡ length a + i * 2 ^ n = omega (arith, la, (let q : (m + i) * 2 ^ n ≡ m * 2 ^ n + i * 2 ^ n = add-mul m i (2 ^ n) in q)) in
-      ap (λ (k : ℕ). take (2 ^ n) (drop k (a ++ b))) e ∙ ap (take (2 ^ n)) (drop-append-add a b (i * 2 ^ n))
-
-  pub count-cut : roundedUp (length (a ++ b)) (2 ^ n) ≡ m + roundedUp (length b) (2 ^ n)
-  unfolding roundedUp
-  count-cut =
-      let p : 0 < 2 ^ n = omega (arith, pow-pos n) in
-      let e : length (a ++ b) + (2 ^ n - 1) ≡ m * 2 ^ n + (length b + (2 ^ n - 1)) = ap (λ (k : ℕ). k + (2 ^ n - 1)) (length-append a b) ∙ omega (arith, la) in
-      ap (λ (k : ℕ). k / 2 ^ n) e ∙ mul-add-div-right p m (length b + (2 ^ n - 1))
-
-  pub count-whole : roundedUp (length a) (2 ^ n) ≡ m
-  unfolding roundedUp
-  count-whole =
-      let p : 0 < 2 ^ n = omega (arith, pow-pos n) in
-      let l : 2 ^ n - 1 < 2 ^ n = omega arith in
-      ap (λ (k : ℕ). (k + (2 ^ n - 1)) / 2 ^ n) la ∙ mul-add-div-right p m (2 ^ n - 1) ∙ ap (λ (k : ℕ). m + k) (div-eq-of-lt l) ∙ add-zero m
+positive : (n : ℕ) → 0 < 2 ^ n
+positive n = omega (arith, pow-pos n)
 
 -- ---- the records of an input whose sheet and choice have a right length
 
@@ -83,13 +56,8 @@ module _ (s ch : List ℕ) (h : sizeOf s ≤ largestN) (two : length ch ≡ 2) w
   -- two parts, the first of whole words
   pub records-cut : (a b : List ℕ) (m : ℕ) → length a ≡ m * 2 ^ n → records s ch (a ++ b) ≡ records s ch a ++ records s ch b
   records-cut a b m la =
-      let f : ℕ → List ℕ = recordAt n s (getD ch 0 0) (getD ch 1 0) (a ++ b) in
-      let fa : ℕ → List ℕ = recordAt n s (getD ch 0 0) (getD ch 1 0) a in
-      let fb : ℕ → List ℕ = recordAt n s (getD ch 0 0) (getD ch 1 0) b in
-      let kb : ℕ = roundedUp (length b) (2 ^ n) in
-      let ea : records s ch a ≡ tab m fa = records-words s ch a h two ∙ ap (λ (k : ℕ). tab k fa) (count-whole n a b m la) in
-      records-words s ch (a ++ b) h two ∙ ap (λ (k : ℕ). tab k f) (count-cut n a b m la) ∙ tab-append m kb f
-      ∙ ap₂ {C = List (List ℕ)} _++_ (tab-below m f fa (λ i l. ap answerTo (word-front n a b m la i l)) ∙ sym ea) (tab-below kb (λ (i : ℕ). f (m + i)) fb (λ i l. ap answerTo (word-back n a b m la i)) ∙ sym (records-words s ch b h two))
+      records-words s ch (a ++ b) h two ∙ pieces-cut (2 ^ n) (positive n) a b m la answerTo
+      ∙ ap₂ {C = List (List ℕ)} _++_ (sym (records-words s ch a h two)) (sym (records-words s ch b h two))
 
   -- ---- any result that is done
 
@@ -104,11 +72,9 @@ module _ (s ch : List ℕ) (h : sizeOf s ≤ largestN) (two : length ch ≡ 2) w
 
   pub record-at : (input out x : List ℕ) → leaving x Done ≡ streaming s ch input out → (k : ℕ) → k < roundedUp (length input) (2 ^ n) → row answerBytes x k ≡ answerTo (wordAt n input k)
   record-at input out x p k l =
-      let K : ℕ = length (records s ch input) in
-      let e : rows answerBytes K x ≡ records s ch input = ap (rows answerBytes K) (written input out x p) ∙ rows-front answerBytes (records s ch input) _ (records-wide s ch input) in
-      let lk : k < K = omega (arith, l, record-count input) in
-      sym (tab-at K (row answerBytes x) k [] lk) ∙ ap (λ (r : List (List ℕ)). getD r k []) (e ∙ records-words s ch input h two)
-      ∙ tab-at (roundedUp (length input) (2 ^ n)) (recordAt n s (getD ch 0 0) (getD ch 1 0) input) k [] l
+      let lk : k < length (records s ch input) = omega (arith, l, record-count input) in
+      ap (λ (t : List ℕ). row answerBytes t k) (written input out x p) ∙ record-of answerBytes (records s ch input) _ (records-wide s ch input) k lk
+      ∙ ap (λ (t : List (List ℕ)). getD t k []) (records-words s ch input h two) ∙ tab-at (roundedUp (length input) (2 ^ n)) (recordAt n s (getD ch 0 0) (getD ch 1 0) input) k [] l
 
   -- two inputs with the same word k have the same record there
   pub alone : (input out x input′ out′ x′ : List ℕ) → leaving x Done ≡ streaming s ch input out → leaving x′ Done ≡ streaming s ch input′ out′
@@ -156,8 +122,7 @@ room-written s ch input out x a p l = ap (λ (t : Reply). t .bytes) p ∙ rw (le
 
 -- each part is a whole number of words of N bytes
 abbrev pub WholeWords : ℕ → List (List ℕ) → Type 0
-WholeWords N [] = Unit {0}
-WholeWords N (a ∷ parts) = (length a % N ≡ 0) × WholeWords N parts
+WholeWords = WholePieces
 
 -- a call of `answer` that had room for the records: what it was handed, its answer, and its output as found and after the call
 pub record Call (s ch : List ℕ) : Type 0 where
@@ -172,30 +137,16 @@ pub record Call (s ch : List ℕ) : Type 0 where
 abbrev pub left : {s ch : List ℕ} → Call s ch → List ℕ
 left {s} {ch} c = take (length (records s ch (c .input)) * answerBytes) (c .after)
 
--- lists of lists made flat at once, or one by one
-flatten-each : (f : List ℕ → List (List ℕ)) (l : List (List ℕ)) → flatten (flatten (map f l)) ≡ flatten (map (λ (a : List ℕ). flatten (f a)) l)
-unfolding flatten
-flatten-each f [] = refl
-flatten-each f (a ∷ l) = flatten-append (f a) (flatten (map f l)) ∙ ap (λ (t : List ℕ). flatten (f a) ++ t) (flatten-each f l)
-
 module _ (s ch : List ℕ) (h : sizeOf s ≤ largestN) (two : length ch ≡ 2) where
   -- the records of the parts, one after the other
   pub cut-records : (parts : List (List ℕ)) (last : List ℕ) → WholeWords (2 ^ sizeOf s) parts
       → records s ch (flatten parts ++ last) ≡ flatten (map (records s ch) parts) ++ records s ch last
-  unfolding flatten
-  cut-records [] last w = refl
-  cut-records (a ∷ parts) last w =
-      let N : ℕ = 2 ^ sizeOf s in
-      let m : length a ≡ length a / N * N = omega (arith, div-add-mod' (length a) N, w .0) in
-      ap (records s ch) (append-assoc a (flatten parts) last) ∙ records-cut s ch h two a (flatten parts ++ last) (length a / N) m
-      ∙ ap (λ (t : List (List ℕ)). records s ch a ++ t) (cut-records parts last (w .1)) ∙ sym (append-assoc (records s ch a) _ _)
+  cut-records = cut-list (2 ^ sizeOf s) (positive (sizeOf s)) (answerTo s ch h two) (records s ch) (λ i. records-words s ch i h two)
 
   -- their bytes
   pub cut-bytes : (parts : List (List ℕ)) (last : List ℕ) → WholeWords (2 ^ sizeOf s) parts
       → flatten (records s ch (flatten parts ++ last)) ≡ flatten (map (λ (a : List ℕ). flatten (records s ch a)) parts) ++ flatten (records s ch last)
-  cut-bytes parts last w =
-      ap flatten (cut-records parts last w) ∙ flatten-append (flatten (map (records s ch) parts)) (records s ch last)
-      ∙ ap (λ (t : List ℕ). t ++ flatten (records s ch last)) (flatten-each (records s ch) parts)
+  cut-bytes = cut-flat (2 ^ sizeOf s) (positive (sizeOf s)) (answerTo s ch h two) (records s ch) (λ i. records-words s ch i h two)
 
   -- what a call leaves
   left-bytes : (c : Call s ch) → left c ≡ flatten (records s ch (c .input))

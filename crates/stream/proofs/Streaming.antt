@@ -1,32 +1,31 @@
 -- The records one after the other.
 --     record-long, records-wide     each record has its bytes
---     word-is           word i, as the code cuts it out
---     put-record        the next record put behind those before it
 --     short, room       the test for room
 --     streamed          what the call answers
 --     shape-alone, choice-alone, words-all     the records, case by case
 use mathlib.Core.Path.{_≡_, refl, sym, ap, ap₂, _∙_}
 use mathlib.Core.Logic.{_⊎_, inl, inr}
-use Prim.Native.Nat.{ℕ, zero, suc, min, _+_, _-_, _*_, _/_, _^_, _≤_, _<_}
+use Prim.Native.Nat.{ℕ, _+_, _-_, _*_, _/_, _^_, _≤_, _<_}
 use native.Mathlib.Omega.{arith}
 use native.Mathlib.Nat.{div-lt-iff-lt-mul, le-div-iff-mul-le}
-use mathlib.Core.List.{List, [], _∷_, _++_, flatten, append-assoc, append-nil}
-use lib.ListN.{length, take, drop, getD, replicate, length-append, length-drop, length-replicate}
-use lib.Seq.{take-all, drop-drop}
+use mathlib.Core.List.{List, [], _∷_, _++_, flatten}
+use lib.ListN.{length, drop, getD, replicate, length-append, length-replicate}
 use borrow.Author.Tests.{lt-ltb, le-ltb}
-use borrow.Rule.Slice.PartMut.{putMid, postOf}
+use borrow.Rule.Slice.PartMut.{postOf}
 use Rattle.bits.specs.Vectors.{tab}
 use Rattle.bits.specs.Rows.{Wide}
-use Rattle.bits.proofs.Tests.{length-tab, tab-snoc, le-or-lt, eq-or-ne}
-use Rattle.bits.proofs.RowLaws.{length-flatten, put-behind}
+use Rattle.bits.proofs.Tests.{le-or-lt, eq-or-ne}
+use Rattle.bits.proofs.RowLaws.{length-flatten}
+use Rattle.bits.proofs.Records.{flatten-one, wide-tab}
 use Rattle.meaning.specs.Limits.{largestN, stripWidth}
 use Rattle.meaning.specs.Answers.{Reply, leaving, decoding}
 use Rattle.meaning.specs.Stream.{header, answerBytes, answerRecord, refusedRecord, sizeOf, roundedUp, wordAt, records, streaming}
 use Rattle.meaning.specs.declared.Answer.{Answer}
 use Rattle.meaning.specs.declared.Answer.the-variants.{Done, BadShape, BadCheck, ShortOutput}
+use Rattle.meaning.proofs.Heading.{header-long}
 use Rattle.stream.specs.Laying.{laid}
 use Rattle.stream.proofs.Fitting.{keeps-length}
-use Rattle.stream.proofs.Laying.{header-long, laid-long, recorded, word-fits}
+use Rattle.stream.proofs.Laying.{laid-long, recorded, word-fits}
 use Rattle.stream.proofs.Counting.{records-shape, records-choice, records-words, counted}
 
 -- the record of word i
@@ -48,10 +47,6 @@ pub refused-long : (a : Answer) → length (refusedRecord a) ≡ answerBytes
 unfolding refusedRecord answerBytes
 refused-long a = length-append (header a) _ ∙ ap₂ _+_ (header-long a) (length-replicate {A = ℕ} (3 * stripWidth) 255)
 
-pub wide-tab : (w k : ℕ) (f : ℕ → List ℕ) → ((i : ℕ) → length (f i) ≡ w) → Wide w (tab k f)
-wide-tab w zero f h = tt
-wide-tab w (suc k) f h = (h 0, wide-tab w k (λ (i : ℕ). f (suc i)) (λ i. h (suc i)))
-
 pub records-wide : (s ch input : List ℕ) → Wide answerBytes (records s ch input)
 records-wide s ch input = go (le-or-lt (sizeOf s) largestN) (eq-or-ne (length ch) 2)
   where
@@ -60,46 +55,6 @@ records-wide s ch input = go (le-or-lt (sizeOf s) largestN) (eq-or-ne (length ch
     go (inl h) (inr e) = rw (records-choice s ch input h e) (refused-long BadCheck, tt)
     go (inl h) (inl e) =
         rw (records-words s ch input h e) (wide-tab answerBytes (roundedUp (length input) (2 ^ sizeOf s)) (recordAt (sizeOf s) s (getD ch 0 0) (getD ch 1 0) input) (λ i. record-long (sizeOf s) s (getD ch 0 0) (getD ch 1 0) (wordAt (sizeOf s) input i) h))
-
--- ---- one word
-
-take-min : (k : ℕ) (l : List ℕ) → take (min k (length l)) l ≡ take k l
-take-min k l = go (le-or-lt k (length l))
-  where
-    go : (k ≤ length l) ⊎ (length l < k) → take (min k (length l)) l ≡ take k l
-    go (inl h) = ap (λ (j : ℕ). take j l) (let e : min k (length l) ≡ k = omega arith in e)
-    go (inr h) = ap (λ (j : ℕ). take j l) (let e : min k (length l) ≡ length l = omega arith in e) ∙ take-all (length l) l (omega arith) ∙ sym (take-all k l (omega arith))
-
-pub word-is : (n : ℕ) (input : List ℕ) (i size m : ℕ) → size ≡ 2 ^ n → m ≡ min size (length input - i * size) → take m (drop (i * size) input) ≡ wordAt n input i
-unfolding wordAt
-word-is n input i size m e q =
-    ap (λ (k : ℕ). take k (drop (i * size) input)) (q ∙ ap (min size) (sym (length-drop (i * size) input))) ∙ take-min size (drop (i * size) input)
-    ∙ ap (λ (k : ℕ). take k (drop (i * k) input)) e
-
--- ---- the next record
-
-pub flatten-append : (a b : List (List ℕ)) → flatten (a ++ b) ≡ flatten a ++ flatten b
-unfolding flatten
-flatten-append [] b = refl
-flatten-append (x ∷ a) b = ap (λ (t : List ℕ). x ++ t) (flatten-append a b) ∙ sym (append-assoc x (flatten a) (flatten b))
-
-pub flatten-one : (x : List ℕ) → flatten (x ∷ []) ≡ x
-unfolding flatten
-flatten-one x = append-nil x
-
-module _ (A : ℕ) (f : ℕ → List ℕ) (h : (i : ℕ) → length (f i) ≡ A) (o : List ℕ) where
-  tab-long : (i : ℕ) → length (flatten (tab i f)) ≡ i * A
-  tab-long i = length-flatten A (tab i f) (wide-tab A i f h) ∙ ap (λ (k : ℕ). k * A) (length-tab i f)
-
-  pub put-record : (i : ℕ) (x : List ℕ) → x ≡ f i → putMid (i * A) (i * A + A - i * A) (flatten (tab i f) ++ drop (i * A) o) x ≡ flatten (tab (i + 1) f) ++ drop ((i + 1) * A) o
-  put-record i x e =
-      let k : i * A + A - i * A ≡ A = omega arith in
-      let m : i * A + A ≡ (i + 1) * A = omega arith in
-      put-behind (flatten (tab i f)) (drop (i * A) o) x (i * A) (i * A + A - i * A) (tab-long i)
-      ∙ ap₂ {C = List ℕ} (λ t j. flatten (tab i f) ++ (t ++ drop j (drop (i * A) o))) e k
-      ∙ ap (λ (t : List ℕ). flatten (tab i f) ++ (f i ++ t)) (drop-drop A (i * A) o ∙ ap (λ (j : ℕ). drop j o) m)
-      ∙ sym (append-assoc (flatten (tab i f)) (f i) (drop ((i + 1) * A) o))
-      ∙ ap (λ (t : List ℕ). t ++ drop ((i + 1) * A) o) (sym (ap flatten (tab-snoc i f) ∙ flatten-append (tab i f) (f i ∷ []) ∙ ap (λ (t : List ℕ). flatten (tab i f) ++ t) (flatten-one (f i))))
 
 -- ---- the call
 

@@ -2,7 +2,7 @@
 // values: the bytes of sheet.bin, of choice.bin (r, then the ceiling) and of the words end to end.
 ghost use mathlib.Core.Path.{_≡_};
 ghost use mathlib.Core.List.{_++_, flatten};
-ghost use Prim.Native.Nat.{ℕ, min, _*_, _-_, _^_, _≤_};
+ghost use Prim.Native.Nat.{ℕ, _*_, _^_, _≤_};
 ghost use lib.ListN.{length, drop};
 ghost use Rattle.bits.specs.Vectors.{tab};
 ghost use Rattle.meaning.specs.Limits.{largestN};
@@ -13,6 +13,7 @@ mod record;
 
 use meaning::Answer;
 use meaning::limits;
+use meaning::pieces;
 
 // N, 2 to the n.
 fn size_of(n: usize) -> usize
@@ -36,14 +37,6 @@ pub fn size(sheet: &[u8]) -> usize
     n
 }
 
-// a divided by b, rounded up.
-fn rounded_up(a: usize, b: usize) -> usize
-    requires { ⌜ 1 ≤ b ⌝ }
-    ensures { λ r. ⌜ r ≡ roundedUp a b ⌝ }
-{
-    if a == 0 { 0 } else { (a - 1) / b + 1 }
-}
-
 // The number of records that an input is answered with: one for each word, the cut-off last one too; one alone where the
 // sheet or the choice has a wrong length.
 pub fn records(sheet: &[u8], choice: &[u8], input: &[u8]) -> usize
@@ -56,16 +49,7 @@ pub fn records(sheet: &[u8], choice: &[u8], input: &[u8]) -> usize
     if choice.len() != 2 {
         return 1;
     }
-    rounded_up(input.len(), size_of(n))
-}
-
-// Where word i ends.
-fn end_of(i: usize, size: usize, len: usize) -> usize
-    requires { ⌜ i * size ≤ len ⌝ }
-    ensures { λ r. ⌜ (i * size ≤ r) × (r ≤ len) × (r - i * size ≡ min size (len - i * size)) ⌝ }
-{
-    let at = i * size;
-    if len - at < size { len } else { at + size }
+    pieces::count(input.len(), size_of(n))
 }
 
 // Writes the records of k words, one after the other.
@@ -77,7 +61,7 @@ fn words(n: usize, sheet: &[u8], r: usize, ceiling: usize, input: &[u8], k: usiz
     let mut i = 0;
     while i < k {
         let from = i * size;
-        let end = end_of(i, size, input.len());
+        let end = pieces::end(i, size, input.len());
         let to = i * limits::ANSWER;
         record::answer(
             n,

@@ -10,31 +10,6 @@ use crate::size_of;
 use meaning::Answer;
 use meaning::limits;
 
-// The first 16 bytes: code, place, g, m, d, two bytes each, low first; six zeros.
-fn head(a: Answer) -> [u8; limits::HEAD]
-    ensures { λ r. ⌜ r ≡ header a ⌝ }
-{
-    let v = meaning::numbers(a);
-    [
-        (v[0] % 256) as u8,
-        (v[0] / 256 % 256) as u8,
-        (v[1] % 256) as u8,
-        (v[1] / 256 % 256) as u8,
-        (v[2] % 256) as u8,
-        (v[2] / 256 % 256) as u8,
-        (v[3] % 256) as u8,
-        (v[3] / 256 % 256) as u8,
-        (v[4] % 256) as u8,
-        (v[4] / 256 % 256) as u8,
-        0,
-        0,
-        0,
-        0,
-        0,
-        0,
-    ]
-}
-
 // Three strips before anything is copied into them.
 fn blank() -> [u8; limits::STRIPS]
     ensures { λ r. ⌜ r ≡ replicate (3 * stripWidth) 255 ⌝ }
@@ -63,7 +38,7 @@ fn put(a: Answer, strips: &[u8], out: &mut [u8])
     requires { ⌜ (length (now strips) ≡ 3 * stripWidth) × (length (now out) ≡ answerBytes) ⌝ }
     ensures { λ _. ⌜ now (out .exit) ≡ header a ++ now (strips .entry) ⌝ }
 {
-    bytes::copy(&head(a), out);
+    bytes::copy(&meaning::header(a), out);
     bytes::copy(strips, &mut out[limits::HEAD..]);
 }
 

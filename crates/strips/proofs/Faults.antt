@@ -2,6 +2,7 @@
 --     fault-..                     the fault of form, test by test
 --     lane-same                    the word of a lane, by the marks and by what is lost as a word
 --     lane-formed                  no fault of form in a strip, none in its lanes
+--     form-room                    then there is room for the output
 --     repair-refused               repairing is refused for it
 --     repair-passed                nothing is refused
 --     repair-decided               what is left to decide
@@ -207,6 +208,9 @@ module _ (n : ℕ) (s : List ℕ) (r c : ℕ) (strip lost out : List ℕ) where
         room = d .roomy;
         low = ltb-false largestCeiling c (or-false-l (ltb largestCeiling c) false u);
       }
+
+  pub form-room : refuses F ≡ false → 65 * 2 ^ n ≤ length out
+  form-room h = (formed h) .room
 
   module _ (a : Answer) (ea : a ≡ repairFault n s r c (length strip) lost (length out)) (b : Bool) (eb : b ≡ isDone a) where
     pub repair-refused : b ≡ false → leaving out a ≡ repairing n s r c strip lost out

@@ -2,9 +2,10 @@ use mathlib.Core.Path.{_≡_, ap, _∙_}
 use mathlib.Core.List.{List}
 use Prim.Native.Nat.{ℕ}
 use lib.ListN.{length, take}
+use Rattle.bits.proofs.Parts.{front}
 use Rattle.meaning.specs.Limits.{headBytes, stripWidth}
 use Rattle.meaning.specs.Stream.{answerBytes, records}
-use Rattle.recover.proofs.Runs.{lent-is, filled-in}
+use Rattle.recover.proofs.Runs.{filled-in}
 use borrow.Author.Needs.{needs}
 use native.Mathlib.Omega.{arith}
 use Rattle.recover.proofs.fill.Statement.{statement}
@@ -16,7 +17,7 @@ counted : (c : tie.After-slice-known2)
     c .before .before .before .before .before .records .result ≡ length (records (start .args .sheet .now) (start .args .choice .now) (take (start .args .got) (start .args .input .now)))
 counted c =
     let start = c .before .before .before .before .before .before .before .before .before .before .before in
-    c .before .before .before .before .before .records .ensures ∙ ap (λ (w : List ℕ). length (records (start .args .sheet .now) (start .args .choice .now) w)) (lent-is (start .args .got) (start .args .input .now))
+    c .before .before .before .before .before .records .ensures ∙ ap (λ (w : List ℕ). length (records (start .args .sheet .now) (start .args .choice .now) w)) (front (start .args .got) (start .args .input .now))
 
 sub-records : tie.Need-sub-records
 sub-records c = search needs
@@ -55,7 +56,7 @@ returns : tie.Need-returns
 unfolding answerBytes headBytes stripWidth
 returns c =
     let start = c .before .before .before .before .before .before .before .before .before .before .before in
-    filled-in (start .args .sheet .now) (start .args .choice .now) _ (start .args .out .now) _ _ _ _ (lent-is (start .args .got) (start .args .input .now))
+    filled-in (start .args .sheet .now) (start .args .choice .now) _ (start .args .out .now) _ _ _ _ (front (start .args .got) (start .args .input .now))
     (c .before .before .answer .ensures) (start .pre .1) (counted c)
 
 pub fill-spec : {M : Type 1} → statement M

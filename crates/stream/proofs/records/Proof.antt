@@ -1,4 +1,3 @@
-use lib.Pow.{pow-pos}
 use Rattle.meaning.specs.Limits.{largestN}
 use Rattle.stream.proofs.Counting.{one-shape, one-choice, counted}
 use borrow.Author.Needs.{needs}
@@ -26,8 +25,8 @@ size-of-requires : tie.Need-size-of-requires
 unfolding largestN
 size-of-requires c κs = omega (arith, c .before .if1 .left)
 
-rounded-up-requires : tie.Need-rounded-up-requires
-rounded-up-requires c κs = omega (arith, c .size-of .ensures, pow-pos (c .before .before .before .size .result))
+count-requires : tie.Need-count-requires
+count-requires c κs = search needs
 
 returns-3 : tie.Need-returns-3
 unfolding largestN
@@ -36,9 +35,9 @@ returns-3 c =
     let else1 = else2 .before in
     let at-size = else1 .before in
     let start = at-size .before .before .before .before in
-    counted (start .args .sheet .now) (start .args .choice .now) (start .args .input .now) _ (at-size .size .ensures) (else1 .if1 .left) (else2 .if2 .left) _ (c .before .size-of .ensures) _ (c .rounded-up .ensures)
+    counted (start .args .sheet .now) (start .args .choice .now) (start .args .input .now) _ (at-size .size .ensures) (else1 .if1 .left) (else2 .if2 .left) _ (c .before .size-of .ensures) _ (c .count .ensures)
 
 pub records-spec : {M : Type 1} → statement M
 records-spec =
     tie.close
-    (tie.spec size-requires returns returns-2 size-of-requires rounded-up-requires returns-3)
+    (tie.spec size-requires returns returns-2 size-of-requires count-requires returns-3)

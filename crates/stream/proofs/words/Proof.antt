@@ -1,13 +1,15 @@
 use mathlib.Core.Path.{_≡_, refl, ap, _∙_}
 use mathlib.Core.List.{List, _++_, flatten}
-use Prim.Native.Nat.{ℕ, _+_, _*_, _-_, _≤_}
+use Prim.Native.Nat.{ℕ, _+_, _*_, _-_, _^_, _≤_, _<_}
+use lib.Pow.{pow-pos}
 use lib.ListN.{length, drop, length-take, length-drop}
 use borrow.Rule.Slice.PartMut.{putMid}
 use Rattle.bits.specs.Vectors.{tab}
 use Rattle.meaning.specs.Limits.{headBytes, stripWidth}
-use Rattle.meaning.specs.Stream.{answerBytes, answerRecord}
-use Rattle.stream.proofs.Counting.{begins}
-use Rattle.stream.proofs.Streaming.{recordAt, record-long, word-is, put-record}
+use Rattle.meaning.specs.Stream.{answerBytes, answerRecord, pieceAt}
+use Rattle.meaning.proofs.Cutting.{begins, end-room, piece-is}
+use Rattle.bits.proofs.Records.{put-record}
+use Rattle.stream.proofs.Streaming.{recordAt, record-long}
 use borrow.Author.Needs.{needs}
 use native.Mathlib.Omega.{arith}
 use Rattle.stream.proofs.words.Statement.{statement}
@@ -19,6 +21,22 @@ Inv-loop n sheet r ceiling input k out₀ size i₀ out i = (i ≤ k) × (length
 abbrev μ-loop : tie.MeasureT-loop
 μ-loop n sheet r ceiling input k out₀ size i₀ out i = k - i
 
+module _ (c : tie.In-loop Inv-loop μ-loop) where
+  abbrev at-size-of : tie.After-size-of Inv-loop μ-loop
+  at-size-of = c .before .before
+
+  -- word i starts within the input
+  starts : c .before .loop .i * at-size-of .size-of .result < length (at-size-of .before .before .before .before .args .input .now)
+  starts =
+      let start = at-size-of .before .before .before .before in
+      begins (length (start .args .input .now)) (2 ^ start .args .n) (at-size-of .size-of .result) (c .before .loop .i) (start .args .k) (omega (arith, pow-pos (start .args .n))) (at-size-of .size-of .ensures) (start .pre .1) (c .loop-test .taken)
+
+-- and ends there
+ends : (c : tie.After-end Inv-loop μ-loop)
+    → let size = at-size-of (c .before) .size-of .result in
+    (c .before .before .loop .i * size ≤ c .end .result) × (c .end .result ≤ length (at-size-of (c .before) .before .before .before .before .args .input .now))
+ends c = end-room (at-size-of (c .before) .size-of .result) (length (at-size-of (c .before) .before .before .before .before .args .input .now)) (c .before .before .loop .i) (c .end .result) (c .end .ensures) (omega (arith, starts (c .before)))
+
 size-of-requires : tie.Need-size-of-requires Inv-loop μ-loop
 size-of-requires c κs = c .before .before .before .pre .0
 
@@ -27,29 +45,23 @@ unfolding flatten answerBytes headBytes stripWidth
 loop-holds c = (omega arith, refl, refl)
 
 mul-from : tie.Need-mul-from Inv-loop μ-loop
-mul-from c =
-    let at-size-of = c .before .before in
-    let start = at-size-of .before .before .before .before in
-    omega (arith, begins (length (start .args .input .now)) (at-size-of .size-of .result) (start .args .n) (c .before .loop .i) (start .args .k) (at-size-of .size-of .ensures) (start .pre .1) (c .loop-test .taken))
+mul-from c = omega (arith, starts c)
 
-end-of-requires : tie.Need-end-of-requires Inv-loop μ-loop
-end-of-requires c κs =
-    let at-size-of = c .before .before in
-    let start = at-size-of .before .before .before .before in
-    omega (arith, begins (length (start .args .input .now)) (at-size-of .size-of .result) (start .args .n) (c .before .loop .i) (start .args .k) (at-size-of .size-of .ensures) (start .pre .1) (c .loop-test .taken))
+end-requires : tie.Need-end-requires Inv-loop μ-loop
+end-requires c κs = search needs
 
 mul-to : tie.Need-mul-to Inv-loop μ-loop
 unfolding answerBytes headBytes stripWidth
 mul-to c = omega (arith, c .before .loop-test .taken, c .before .before .before .before .before .before .before .pre .2)
 
 sub-answer : tie.Need-sub-answer Inv-loop μ-loop
-sub-answer c = search needs
+sub-answer c = omega (arith, ends c)
 
 part-answer-start : tie.Need-part-answer-start Inv-loop μ-loop
-part-answer-start c = search needs
+part-answer-start c = omega (arith, ends c)
 
 part-answer-end : tie.Need-part-answer-end Inv-loop μ-loop
-part-answer-end c = search needs
+part-answer-end c = omega (arith, ends c)
 
 add-answer : tie.Need-add-answer Inv-loop μ-loop
 unfolding answerBytes headBytes stripWidth
@@ -87,15 +99,15 @@ loop-again : tie.Need-loop-again Inv-loop μ-loop
 unfolding answerBytes headBytes stripWidth
 loop-again c =
     let at-answer = c .before .before in
-    let at-end-of = at-answer .before .before .before in
-    let in-loop = at-end-of .before in
+    let at-end = at-answer .before .before .before in
+    let in-loop = at-end .before in
     let at-loop = in-loop .before in
     let at-size-of = at-loop .before in
     let start = at-size-of .before .before .before .before in
     let A = start .args in
     let l = at-loop .loop in
     let x : at-answer .answer .last .1 .1 .1 .1 .1 .0 ≡ recordAt (A .n) (A .sheet .now) (A .r) (A .ceiling) (A .input .now) (l .i) = at-answer .answer .ensures
-    ∙ ap (answerRecord (A .n) (A .sheet .now) (A .r) (A .ceiling)) (word-is (A .n) (A .input .now) (l .i) _ _ (at-size-of .size-of .ensures) (at-end-of .end-of .ensures .2)) in (
+    ∙ ap (answerRecord (A .n) (A .sheet .now) (A .r) (A .ceiling)) (piece-is (at-size-of .size-of .result) (A .input .now) (l .i) _ (at-end .end .ensures) ∙ ap (λ (L : ℕ). pieceAt L (A .input .now) (l .i)) (at-size-of .size-of .ensures)) in (
       omega (arith, in-loop .loop-test .taken),
       c .before .out .given .1 ∙ l .inv .1,
       ap (λ (o : List ℕ). putMid (l .i * answerBytes) (l .i * answerBytes + answerBytes - l .i * answerBytes) o (at-answer .answer .last .1 .1 .1 .1 .1 .0)) (l .inv .2)
@@ -121,7 +133,7 @@ words-spec =
     size-of-requires
     loop-holds
     mul-from
-    end-of-requires
+    end-requires
     mul-to
     sub-answer
     part-answer-start

@@ -4,17 +4,18 @@ use Prim.Native.Nat.{ℕ}
 use lib.ListN.{length}
 use Rattle.meaning.specs.Stream.{answerBytes}
 use Rattle.meaning.specs.Limits.{headBytes, stripWidth}
-use Rattle.stream.proofs.Laying.{header-long, put-whole, put-room}
+use Rattle.meaning.proofs.Heading.{header-long}
+use Rattle.stream.proofs.Laying.{put-whole, put-room}
 use borrow.Author.Needs.{needs}
 use native.Mathlib.Omega.{arith}
 use Rattle.stream.proofs.record.put.Statement.{statement}
 use Rattle.stream.proofs.record.put.Tie as tie
 
-header-long-is : (c : tie.After-head) → length (c .head .result) ≡ headBytes
-header-long-is c = ap length (c .head .ensures) ∙ header-long (c .before .before .before .args .a)
+header-long-is : (c : tie.After-header) → length (c .header .result) ≡ headBytes
+header-long-is c = ap length (c .header .ensures) ∙ header-long (c .before .before .before .args .a)
 
-head-requires : tie.Need-head-requires
-head-requires c κs = search needs
+header-requires : tie.Need-header-requires
+header-requires c κs = search needs
 
 slice-aggregate-copy : tie.Need-slice-aggregate-copy
 unfolding headBytes
@@ -50,16 +51,16 @@ unfolding answerBytes headBytes stripWidth
 returns c =
     let at-copy2 = c .before .before in
     let at-copy = at-copy2 .before .before .before .before in
-    let at-head = at-copy .before .before .before in
-    let start = at-head .before .before .before in
-    put-whole (at-head .head .result) (start .args .strips .now) (start .args .out .now) _ headBytes (header-long-is (at-head)) (omega (arith, start .pre .0, start .pre .1)) _ (at-copy .copy .ensures .1) (at-copy2 .copy2 .ensures .1)
-    ∙ ap (λ (t : List ℕ). t ++ start .args .strips .now) (at-head .head .ensures)
+    let at-header = at-copy .before .before .before in
+    let start = at-header .before .before .before in
+    put-whole (at-header .header .result) (start .args .strips .now) (start .args .out .now) _ headBytes (header-long-is (at-header)) (omega (arith, start .pre .0, start .pre .1)) _ (at-copy .copy .ensures .1) (at-copy2 .copy2 .ensures .1)
+    ∙ ap (λ (t : List ℕ). t ++ start .args .strips .now) (at-header .header .ensures)
 
 pub put-spec : {M : Type 1} → statement M
 put-spec =
     tie.close
     (tie.spec
-    head-requires
+    header-requires
     slice-aggregate-copy
     copy-requires
     sub-copy

@@ -1,9 +1,10 @@
+-- `header` gives two bytes for each of the five numbers, and zeros behind them.
 use mathlib.Core.List.{flatten}
 use borrow.Author.Needs.{needs}
 use Rattle.meaning.specs.Limits.{headBytes}
-use Rattle.stream.proofs.Laying.{headed}
-use Rattle.stream.proofs.record.head.Statement.{statement}
-use Rattle.stream.proofs.record.head.Tie as tie
+use Rattle.meaning.proofs.Heading.{headed}
+use Rattle.meaning.proofs.header.Statement.{statement}
+use Rattle.meaning.proofs.header.Tie as tie
 
 numbers-requires : tie.Need-numbers-requires
 numbers-requires c κs = search needs
@@ -72,8 +73,8 @@ returns : tie.Need-returns
 unfolding flatten headBytes
 returns c = headed (c .before .args .a) _ (c .numbers .ensures)
 
-pub head-spec : {M : Type 1} → statement M
-head-spec =
+pub header-spec : {M : Type 1} → statement M
+header-spec =
     tie.close
     (tie.spec
     numbers-requires

@@ -1,7 +1,7 @@
 use Rattle.intake.proofs.Decisions.{counted-least}
 use borrow.Author.Needs.{needs}
-use Rattle.recover.proofs.files.load.Statement.{statement}
-use Rattle.recover.proofs.files.load.Tie as tie
+use Rattle.intake.proofs.load.Statement.{statement}
+use Rattle.intake.proofs.load.Tie as tie
 
 open-read-requires : tie.Need-open-read-requires
 open-read-requires c κs = search needs

@@ -1,0 +1,28 @@
+// The three files that are read.
+ghost use Prim.Native.Nat.{_*_, _^_, _≤_, _<_};
+ghost use lib.ListN.{length};
+ghost use Rattle.meaning.specs.Limits.{largestN, recordBytes};
+
+// Reads sheet.bin. There is room for more than the longest sheet, so that a longer file is seen.
+pub fn load_sheet(buf: &mut [u8]) -> usize
+    requires { ⌜ recordBytes * 2 ^ largestN < length (now buf) ⌝ }
+    ensures { λ r. ⌜ r ≤ length (now (buf .exit)) ⌝ }
+{
+    intake::load(b"sheet.bin", b"repair: sheet.bin", buf)
+}
+
+// Reads choice.bin, likewise.
+pub fn load_choice(buf: &mut [u8]) -> usize
+    requires { ⌜ 2 < length (now buf) ⌝ }
+    ensures { λ r. ⌜ r ≤ length (now (buf .exit)) ⌝ }
+{
+    intake::load(b"choice.bin", b"repair: choice.bin", buf)
+}
+
+// Reads the marks, likewise.
+pub fn load_marks(path: &[u8], buf: &mut [u8]) -> usize
+    requires { ⌜ 2 ^ largestN < length (now buf) ⌝ }
+    ensures { λ r. ⌜ r ≤ length (now (buf .exit)) ⌝ }
+{
+    intake::load(path, b"repair: the marks", buf)
+}

@@ -1,0 +1,2 @@
+-- Strips: strips end to end, and what is written for them.
+pub mod Strips
