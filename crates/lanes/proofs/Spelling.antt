@@ -1,6 +1,6 @@
 -- Bytes, records and marks.
 --     PutUpTo, put-none, put-next, put-all             the bytes of a word
---     packed-ext                                       a number from its bits
+--     packed-ext, packed-bits                          a number from its bits
 --     byte-of                                          a byte of the constants of 64 lanes is the record's
 --     SpeltUpTo, spell-none, spell-next, spell-all     the bytes of a record
 --     blank-is, record-long, record-led, record-bare   a record
@@ -66,7 +66,7 @@ pub packed-ext : (n : ℕ) (f g : ℕ → ℕ) → ((b : ℕ) → b < n → f b 
 packed-ext zero f g h = refl
 packed-ext (suc n) f g h = ap₂ (λ (x y : ℕ). x + y * 2) (h 0 (omega arith)) (packed-ext n (λ (i : ℕ). f (suc i)) (λ (i : ℕ). g (suc i)) (λ b k. h (suc b) (omega arith)))
 
-packed-bits : (n y : ℕ) → y < 2 ^ n → packed n (bitAt y) ≡ y
+pub packed-bits : (n y : ℕ) → y < 2 ^ n → packed n (bitAt y) ≡ y
 packed-bits zero y h = omega arith
 packed-bits (suc n) y h =
     let p = pow-suc 2 n in

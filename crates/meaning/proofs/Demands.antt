@@ -1,6 +1,7 @@
 -- The archivist's demands 2 and 3, of `decoding`, the definition that decode's promise cites.
 -- Standing premise: no fault of form, and room to answer, so that no refusal but 18 applies; the sheet has K at least 1.
---     under                under the ceiling, decoding is the verdict on the candidates
+--     verdict-settled      the first strip, place by place
+--     over, under          over the ceiling, decoding is 18, and under it the verdict on the candidates
 --     over-iff             18 exactly when g passes the ceiling
 --     unique-iff           unique exactly when one codeword agrees
 --     inconsistent-iff     inconsistent exactly when none does
@@ -72,7 +73,7 @@ module _ (n g m : ℕ) (out : List ℕ) where
   verdict-shown (x ∷ y ∷ cs) h = refl
 
   -- place j of the first strip
-  verdict-settled : (cs : List (List Bool)) → 0 < length cs → (j : ℕ) → j < 2 ^ n → getD ((verdict n g m cs out) .bytes) j 0 ≡ settledAt cs j
+  pub verdict-settled : (cs : List (List Bool)) → 0 < length cs → (j : ℕ) → j < 2 ^ n → getD ((verdict n g m cs out) .bytes) j 0 ≡ settledAt cs j
   unfolding strips settled
   verdict-settled cs h j l =
       let t : List ℕ = settled (2 ^ n) cs in
@@ -132,7 +133,7 @@ module _ (n : ℕ) (s : List ℕ) (r c : ℕ) (w out : List ℕ) (ok : refuses (
       let v : Reply = verdict n g m cs out in
       first-append (leaving out) (formRefusals n s r c w out) _ v ∙ first-none (leaving out) (formRefusals n s r c w out) _ ok
 
-  over : c < g → decoding n s r c w out ≡ leaving out (TooMany g)
+  pub over : c < g → decoding n s r c w out ≡ leaving out (TooMany g)
   over h = judged ∙ rw (lt-ltb c g h)
 
   pub under : g ≤ c → decoding n s r c w out ≡ verdict n g m cs out

@@ -12,6 +12,7 @@
 --     Encode                    one codeword a payload
 --     Mono                      more read, never less known
 --     Refusals, Forms           tables of refusals; what is known where none applies
+--     Unique                    one codeword agrees exactly when every place is settled
 --     Demands                   demands 2 and 3 of `decoding`
 --     ReadBack                  encoding and read-back; the round trip
 --     Holding                   a sheet that holds nothing is refused; any other that passes holds something
@@ -40,6 +41,7 @@ pub mod Encode
 pub mod Mono
 pub mod Refusals
 pub mod Forms
+pub mod Unique
 pub mod Demands
 pub mod ReadBack
 pub mod Holding

@@ -1,8 +1,9 @@
 -- The faults of form, and repairing where one applies and where none does.
 --     fault-..                     the fault of form, test by test
 --     lane-same                    the word of a lane, by the marks and by what is lost as a word
+--     lanes-erased                 every lane has the same symbols erased
 --     lane-formed                  no fault of form in a strip, none in its lanes
---     form-room                    then there is room for the output
+--     marks-many, form-room        then there are N marks, and room for the output
 --     repair-refused               repairing is refused for it
 --     repair-passed                nothing is refused
 --     repair-decided               what is left to decide
@@ -124,15 +125,22 @@ module _ (strip word : List ℕ) (t n : ℕ) where
   unfolding openAll
   open-same = ap (λ (es : List Bool). tab (2 ^ n) (isOpen n es)) (in-erased word (λ (j : ℕ). laneBit strip j t) (λ j. omega arith))
 
+-- every lane has the same symbols erased
+pub lanes-erased : (strip lost : List ℕ) (t t′ : ℕ) → map erased (laneOf strip lost t) ≡ map erased (laneOf strip lost t′)
+lanes-erased strip lost t t′ = by t ∙ sym (by t′)
+  where
+    by : (t : ℕ) → map erased (laneOf strip lost t) ≡ map erased (lostWord lost)
+    by t = ap (map erased) (lane-same strip lost t) ∙ in-erased (lostWord lost) (λ (j : ℕ). laneBit strip j t) (λ j. omega arith)
+
 -- a lane is a word of N symbols up to 2
-lane-worded : (strip lost : List ℕ) (t N : ℕ) → length lost ≡ N → refuses (wordRefusals N 2 (3 * N) (laneOf strip lost t) (length (replicate {A = ℕ} (3 * N) 0))) ≡ false
+lane-worded : (strip lost : List ℕ) (t N room : ℕ) → length lost ≡ N → 3 * N ≤ room → refuses (wordRefusals N 2 (3 * N) (laneOf strip lost t) room) ≡ false
 unfolding wordRefusals
-lane-worded strip lost t N e =
+lane-worded strip lost t N room e k =
     let w : List ℕ = laneOf strip lost t in
     let l : length w ≡ length lost = length-tab (length lost) _ in
     let f : firstPlace (ltb 2) w ≡ length w = ⊎-elim (λ (h : length w ≤ firstPlace (ltb 2) w). let p = place-le (ltb 2) w in omega arith)
     (λ (h : firstPlace (ltb 2) w < length w). absurd (not-both (place-passes (ltb 2) w 0 h) (small (firstPlace (ltb 2) w) (omega arith)))) (le-or-lt (length w) (firstPlace (ltb 2) w)) in
-    rw (eq-eqb (length w) N (l ∙ e), le-ltb (firstPlace (ltb 2) w) (length w) (omega arith), le-ltb (length (replicate {A = ℕ} (3 * N) 0)) (3 * N) (omega (arith, length-replicate {A = ℕ} (3 * N) 0))) refl
+    rw (eq-eqb (length w) N (l ∙ e), le-ltb (firstPlace (ltb 2) w) (length w) (omega arith), le-ltb room (3 * N) k) refl
   where
     two : (b : Bool) (x : ℕ) → x < 2 → ltb 2 (pick b x 2) ≡ false
     two true x h = le-ltb 2 x (omega arith)
@@ -162,18 +170,18 @@ module _ (n : ℕ) (s : List ℕ) (r c : ℕ) (strip lost out : List ℕ) where
   m-same t = ap (λ (o : List Bool). ones (closedFrozen (rules n s) o) + r) (ap (openAll n) (lane-same strip lost t) ∙ open-same strip (lostWord lost) t n)
 
   -- no fault of form in a strip, none in its lanes
-  pub lane-formed : refuses F ≡ false → (t : ℕ) → refuses (formRefusals n s r c (laneOf strip lost t) (replicate (3 * 2 ^ n) 0)) ≡ false
+  pub lane-formed : refuses F ≡ false → (t : ℕ) (o : List ℕ) → 3 * 2 ^ n ≤ length o → refuses (formRefusals n s r c (laneOf strip lost t) o) ≡ false
   unfolding repairForm wordRefusals
-  lane-formed h t =
+  lane-formed h t o k =
       let (p, u) = none-append (S n s r c (length strip) lost (length out) ++ L n s r c (length strip) lost (length out)) _ h in
       let (q, v) = none-append (S n s r c (length strip) lost (length out)) _ p in
       let d = worded (2 ^ n) 1 (65 * 2 ^ n) lost (length out) (or-false-r (not (eqb (length strip) (2 ^ n * 64))) _ v) in
-      form-none n s r c (laneOf strip lost t) (replicate (3 * 2 ^ n) 0) q (lane-worded strip lost t (2 ^ n) (d .long)) (ltb-false largestCeiling c (or-false-l (ltb largestCeiling c) false u))
+      form-none n s r c (laneOf strip lost t) o q (lane-worded strip lost t (2 ^ n) (length o) (d .long) k) (ltb-false largestCeiling c (or-false-l (ltb largestCeiling c) false u))
 
   -- what `decode` answers lane t, where 18 does not apply
   lane-told : refuses F ≡ false → unknowns n (rules n s) (lostWord lost) ≤ c → (t : ℕ) → laneReply n s r c strip lost t ≡ laneVerdict n s r strip (lostWord lost) t
   lane-told h l t =
-      under n s r c (laneOf strip lost t) (replicate (3 * 2 ^ n) 0) (lane-formed h t) (omega (arith, g-same t))
+      under n s r c (laneOf strip lost t) (replicate (3 * 2 ^ n) 0) (lane-formed h t (replicate (3 * 2 ^ n) 0) (omega (arith, length-replicate {A = ℕ} (3 * 2 ^ n) 0))) (omega (arith, g-same t))
       ∙ λ i. verdict n (g-same t i) (m-same t i) (candidates n (rules n s) r (lane-same strip lost t i)) (replicate (3 * 2 ^ n) 0)
 
   pub deciding-is : refuses F ≡ false → repairDeciding n s r c strip (lostWord lost) out ≡ repairing n s r c strip lost out
@@ -208,6 +216,9 @@ module _ (n : ℕ) (s : List ℕ) (r c : ℕ) (strip lost out : List ℕ) where
         room = d .roomy;
         low = ltb-false largestCeiling c (or-false-l (ltb largestCeiling c) false u);
       }
+
+  pub marks-many : refuses F ≡ false → length lost ≡ 2 ^ n
+  marks-many h = sym (length-map lost lostSym) ∙ (formed h) .symbols
 
   pub form-room : refuses F ≡ false → 65 * 2 ^ n ≤ length out
   form-room h = (formed h) .room

@@ -1,4 +1,5 @@
 -- What a call leaves.
+--     record-long         each record has 64 bytes
 --     repair-kept         as many bytes as it found
 --     reply-below         a strip's reply is made of the replies to its 512 lanes alone
 use mathlib.Core.Path.{_≡_, refl, sym, ap, ap₂, _∙_}
@@ -26,7 +27,7 @@ over-long : (new out : List ℕ) → length new ≤ length out → length (new +
 over-long new out h = simp (length-append, length-drop) (omega arith)
 
 module _ (n : ℕ) (lane : ℕ → Reply) where
-  record-long : (j : ℕ) → length (recordAt n lane j) ≡ 64
+  pub record-long : (j : ℕ) → length (recordAt n lane j) ≡ 64
   record-long j = go (openAt n lane j)
     where
       go : (b : Bool) → length (pick b (replicate 64 0) (tab 64 (byteAt n lane j))) ≡ 64

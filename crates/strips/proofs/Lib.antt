@@ -6,3 +6,4 @@ pub mod Faults
 pub mod Lanewise
 pub mod Descents
 pub mod Kept
+pub mod Promise
