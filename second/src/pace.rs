@@ -18,7 +18,7 @@ const OLD_CEILING: usize = 63;
 
 /// The sheet of N = 2^n positions: i is free exactly when the number of ones in i is at least half of
 /// n, and else names i - 1 and i - 3, as far as they exist.
-fn sheet(n: usize) -> Vec<Record> {
+pub fn sheet(n: usize) -> Vec<Record> {
     let record = |i: usize| Record {
         frozen: (i.count_ones() as usize) < n.div_ceil(2),
         constant: false,
