@@ -246,6 +246,20 @@ fn serve(
     }
 }
 
+// Room for the strips of a run.
+fn strips_room() -> [u8; INPUT]
+    ensures { λ r. ⌜ length r ≡ runStrips * stripBytes largestN ⌝ }
+{
+    [0; INPUT]
+}
+
+// Room for their parts.
+fn parts_room() -> [u8; REPAIRED]
+    ensures { λ r. ⌜ length r ≡ runStrips * partBytes largestN ⌝ }
+{
+    [0; REPAIRED]
+}
+
 // Reads the three files, makes the room for a run, once, and serves.
 fn work(fd: i32, marks: &[u8]) {
     let mut sheet = [0u8; SHEET];
@@ -254,8 +268,8 @@ fn work(fd: i32, marks: &[u8]) {
     let s = files::load_sheet(&mut sheet);
     let c = files::load_choice(&mut choice);
     let l = files::load_marks(marks, &mut lost);
-    let mut input = [0u8; INPUT];
-    let mut repaired = [0u8; REPAIRED];
+    let mut input = strips_room();
+    let mut repaired = parts_room();
     let mut records = [0u8; RECORDS];
     serve(
         fd,

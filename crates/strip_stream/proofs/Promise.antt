@@ -4,7 +4,8 @@
 --                                       later bytes stay
 --     record-count, part-count          as many records and parts as input bytes divided by 64N, rounded up
 --     record-at, part-at                record k and part k, each at its byte, are the reply to strip k
---     alone                             and depend on strip k alone
+--     untouched                         where repairing leaves its output untouched, all of the part is 255
+--     alone                             record k and part k depend on strip k alone
 --     cut-all                           an input cut at multiples of 64N: the parts, answered one after the other, leave the same bytes in both buffers
 use mathlib.Core.Path.{_≡_, refl, sym, ap, ap₂, _∙_}
 use mathlib.Core.Logic.{_⊎_, inl, inr}
@@ -12,7 +13,7 @@ use Prim.Native.Nat.{ℕ, _*_, _≤_, _<_}
 use native.Mathlib.Omega.{arith}
 use mathlib.Core.Bool.{Bool, true, false, true≢false}
 use mathlib.Core.List.{List, [], _∷_, _++_, map, flatten}
-use lib.ListN.{length, take, drop, getD}
+use lib.ListN.{length, take, drop, getD, replicate}
 use lib.Seq.{take-at}
 use lib.Dec.{ltb}
 use borrow.Author.Tests.{lt-ltb, le-ltb}
@@ -20,12 +21,13 @@ use Rattle.bits.specs.Rows.{row}
 use Rattle.bits.proofs.Tests.{tab-at}
 use Rattle.bits.proofs.Records.{record-of}
 use Rattle.meaning.specs.Limits.{largestN, headBytes}
-use Rattle.meaning.specs.Answers.{Reply}
+use Rattle.meaning.specs.Answers.{Reply, leaving}
 use Rattle.meaning.specs.Stream.{header, sizeOf, pieceAt}
 use Rattle.meaning.specs.declared.Answer.{Answer}
 use Rattle.meaning.specs.declared.Answer.the-variants.{Done, ShortOutput}
 use Rattle.meaning.proofs.Determined.{determined}
 use Rattle.meaning.proofs.Cutting.{WholePieces, cut-flat}
+use Rattle.strips.specs.Repairing.{repairing}
 use Rattle.strip_stream.specs.Strips.{stripBytes, partBytes, stripReply, stripCount, recordCount, partCount, headers, parts, Replies, leavingBoth, answeringStrips}
 use Rattle.strip_stream.proofs.Cases.{right, strip-pos, headers-wide, parts-wide, headers-many, parts-many}
 use Rattle.strip_stream.proofs.Writing.{headers-bytes, parts-bytes, short-records, short-repaired, answered}
@@ -127,6 +129,12 @@ module _ (s ch lost : List ℕ) (h : sizeOf s ≤ largestN) (two : length ch ≡
         let lk : k < length (ps c) = omega (arith, l, parts-many s ch lost (c .input), part-count (c .input)) in
         ap (λ (t : List ℕ). row (partBytes n) t k) (wrote c .1) ∙ record-of (partBytes n) (ps c) _ (parts-wide s ch lost (c .input)) k lk
         ∙ ap (λ (t : List (List ℕ)). getD t k []) (right s ch lost (c .input) h two .parted) ∙ tab-at (stripCount s (c .input)) _ k [] l
+
+    -- repairing answers a and leaves its output untouched
+    pub untouched : (a : Answer) → repairing n s (getD ch 0 0) (getD ch 1 0) (pieceAt (stripBytes n) (c .input) k) lost (replicate (partBytes n) 255) ≡ leaving (replicate (partBytes n) 255) a
+        → (row headBytes (c .records) k ≡ header a) × (row (partBytes n) (c .repaired) k ≡ replicate (partBytes n) 255)
+    unfolding stripReply
+    untouched a e = (record-at ∙ ap (λ (t : Reply). header (t .answer)) e, part-at ∙ ap (λ (t : Reply). t .bytes) e)
 
   -- two inputs with the same strip k have the same record and the same part there
   pub alone : (c d : Call s ch lost) (k : ℕ) → k < stripCount s (c .input) → k < stripCount s (d .input) → pieceAt (stripBytes n) (c .input) k ≡ pieceAt (stripBytes n) (d .input) k

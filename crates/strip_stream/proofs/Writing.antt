@@ -1,6 +1,5 @@
 -- What the functions leave in the two buffers.
 --     put-is, put-whole, replied       the record of an answer, and the reply to one strip
---     put-next                         the next of a list of records
 --     headers-bytes, parts-bytes       how many bytes the records and parts have
 --     alone-records, alone-repaired    one record, and no part
 --     each-records, each-repaired      a record and a part for each strip
@@ -8,7 +7,7 @@
 --     short-records, short-repaired            what the call answers where there is too little
 --     answered                         what the call answers
 use mathlib.Core.Path.{_≡_, refl, sym, ap, ap₂, _∙_}
-use Prim.Native.Nat.{ℕ, _+_, _-_, _*_, _/_, _≤_, _<_}
+use Prim.Native.Nat.{ℕ, _*_, _/_, _≤_, _<_}
 use native.Mathlib.Omega.{arith}
 use native.Mathlib.Nat.{div-lt-iff-lt-mul, le-div-iff-mul-le, zero-mul}
 use mathlib.Core.Bool.{Bool, true, false}
@@ -17,10 +16,9 @@ use lib.ListN.{length, take, drop, getD, replicate, drop-of-length-le}
 use lib.Seq.{take-length}
 use lib.Dec.{ltb}
 use borrow.Author.Tests.{lt-ltb, le-ltb, ltb-true, ltb-false}
-use borrow.Rule.Slice.PartMut.{putMid}
 use Rattle.bits.specs.Vectors.{tab}
 use Rattle.bits.proofs.RowLaws.{length-flatten}
-use Rattle.bits.proofs.Records.{flatten-one, put-record}
+use Rattle.bits.proofs.Records.{flatten-one}
 use Rattle.meaning.specs.Limits.{headBytes}
 use Rattle.meaning.specs.Answers.{Reply, leaving}
 use Rattle.meaning.specs.Stream.{header, sizeOf, roundedUp, pieceAt}
@@ -48,12 +46,6 @@ pub replied : (n : ℕ) (s : List ℕ) (r c : ℕ) (lost strip part blank x : Li
     → leaving x a ≡ repairing n s r c strip lost blank → leaving x a ≡ stripReply n s r c lost strip
 unfolding stripReply
 replied n s r c lost strip part blank x a l e p = p ∙ ap (repairing n s r c strip lost) (e ∙ ap (λ (k : ℕ). replicate k 255) l)
-
--- ---- the next of a list of records
-
-pub put-next : (A i : ℕ) (f : ℕ → List ℕ) → ((j : ℕ) → length (f j) ≡ A) → (found l x : List ℕ) → l ≡ flatten (tab i f) ++ drop (i * A) found → x ≡ f i
-    → putMid (i * A) (i * A + A - i * A) l x ≡ flatten (tab (i + 1) f) ++ drop ((i + 1) * A) found
-put-next A i f h found l x e ex = ap (λ (t : List ℕ). putMid (i * A) (i * A + A - i * A) t x) e ∙ put-record A f h found i x ex
 
 -- ---- how many bytes
 

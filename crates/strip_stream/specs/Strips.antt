@@ -1,10 +1,11 @@
 -- Strips end to end, each repaired by itself: W-201 as 01's stream.
 --     stripBytes n, partBytes n     bytes of a strip of N records, and of what is written for it
---     stripReply                    the reply to one strip
+--     stripReply, replyAt           the reply to one strip, and to strip k of an input
 --     byCase                        by the lengths of the sheet and the choice
---     recordCount, partCount        how many records and parts an input gets
+--     stripCount                    how many strips an input has
+--     recordCount, partCount        how many records and parts it gets
 --     headers, parts                all records, and all parts
---     Replies                       an answer, and the bytes of the two output buffers after the call
+--     Replies, leavingBoth          an answer, and the bytes of the two output buffers after the call
 --     answeringStrips               what the call answers and leaves
 -- `s` is the sheet, `ch` the choice (two bytes: r, ceiling), `lost` the N marks, `input` the strips end to end.
 use Prim.Native.Nat.{ℕ, _*_, _^_}

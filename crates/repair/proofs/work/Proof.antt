@@ -1,7 +1,4 @@
-use Prim.Native.Nat.{ℕ}
-use lib.ListN.{length-replicate}
 use Rattle.meaning.specs.Limits.{largestN, maskBytes, recordBytes, headBytes}
-use Rattle.strip_stream.specs.Strips.{stripBytes, partBytes}
 use Rattle.repair.specs.Runs.{runStrips}
 use borrow.Author.Needs.{needs}
 use Rattle.repair.proofs.work.Statement.{statement}
@@ -26,6 +23,12 @@ slice-aggregate-load-marks c = search needs
 load-marks-requires : tie.Need-load-marks-requires
 unfolding largestN
 load-marks-requires c κs = search needs
+
+strips-room-requires : tie.Need-strips-room-requires
+strips-room-requires c κs = search needs
+
+parts-room-requires : tie.Need-parts-room-requires
+parts-room-requires c κs = search needs
 
 sub-serve : tie.Need-sub-serve
 sub-serve c = search needs
@@ -64,8 +67,8 @@ slice-aggregate-serve-3 : tie.Need-slice-aggregate-serve-3
 slice-aggregate-serve-3 c = search needs
 
 serve-requires : tie.Need-serve-requires
-unfolding runStrips largestN stripBytes partBytes headBytes
-serve-requires c κs = (length-replicate {A = ℕ} 524288 0, length-replicate {A = ℕ} 532480 0, length-replicate {A = ℕ} 256 0)
+unfolding runStrips headBytes
+serve-requires c κs = search needs
 
 returns : tie.Need-returns
 returns c = search needs
@@ -80,6 +83,8 @@ work-spec =
     load-choice-requires
     slice-aggregate-load-marks
     load-marks-requires
+    strips-room-requires
+    parts-room-requires
     sub-serve
     part-serve-start
     part-serve-end

@@ -1,9 +1,8 @@
 use mathlib.Core.Path.{_≡_, refl, ap, _∙_}
-use mathlib.Core.List.{List, _++_, flatten}
+use mathlib.Core.List.{_++_, flatten}
 use Prim.Native.Nat.{ℕ, _+_, _*_, _-_, _^_, _≤_, _<_}
 use lib.Pow.{pow-pos}
 use lib.ListN.{length, drop, length-take, length-drop}
-use borrow.Rule.Slice.PartMut.{putMid}
 use Rattle.bits.specs.Vectors.{tab}
 use Rattle.meaning.specs.Limits.{headBytes, stripWidth}
 use Rattle.meaning.specs.Stream.{answerBytes, answerRecord, pieceAt}
@@ -110,8 +109,7 @@ loop-again c =
     ∙ ap (answerRecord (A .n) (A .sheet .now) (A .r) (A .ceiling)) (piece-is (at-size-of .size-of .result) (A .input .now) (l .i) _ (at-end .end .ensures) ∙ ap (λ (L : ℕ). pieceAt L (A .input .now) (l .i)) (at-size-of .size-of .ensures)) in (
       omega (arith, in-loop .loop-test .taken),
       c .before .out .given .1 ∙ l .inv .1,
-      ap (λ (o : List ℕ). putMid (l .i * answerBytes) (l .i * answerBytes + answerBytes - l .i * answerBytes) o (at-answer .answer .last .1 .1 .1 .1 .1 .0)) (l .inv .2)
-          ∙ put-record answerBytes (recordAt (A .n) (A .sheet .now) (A .r) (A .ceiling) (A .input .now)) (λ i. record-long (A .n) (A .sheet .now) (A .r) (A .ceiling) _ (start .pre .0)) (A .out .now) (l .i) _ x,
+      put-record answerBytes (recordAt (A .n) (A .sheet .now) (A .r) (A .ceiling) (A .input .now)) (λ i. record-long (A .n) (A .sheet .now) (A .r) (A .ceiling) _ (start .pre .0)) (A .out .now) (l .i) (l .out) _ (l .inv .2) x,
     )
 
 same-length : tie.Need-same-length Inv-loop μ-loop

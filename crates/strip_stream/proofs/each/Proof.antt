@@ -4,6 +4,7 @@ use Prim.Native.Nat.{ℕ, _+_, _*_, _-_, _≤_, _<_}
 use lib.ListN.{length, drop, length-take, length-drop}
 use Rattle.bits.specs.Vectors.{tab}
 use Rattle.bits.proofs.RowLaws.{row-fit}
+use Rattle.bits.proofs.Records.{put-record}
 use Rattle.meaning.specs.Limits.{headBytes}
 use Rattle.meaning.specs.Answers.{Reply}
 use Rattle.meaning.specs.Stream.{header, pieceAt}
@@ -11,7 +12,6 @@ use Rattle.meaning.proofs.Heading.{header-long}
 use Rattle.meaning.proofs.Cutting.{begins, end-room, piece-is}
 use Rattle.strip_stream.specs.Strips.{stripBytes, partBytes, stripReply}
 use Rattle.strip_stream.proofs.Cases.{strip-pos, reply-long}
-use Rattle.strip_stream.proofs.Writing.{put-next}
 use borrow.Author.Needs.{needs}
 use native.Mathlib.Omega.{arith}
 use Rattle.strip_stream.proofs.each.Statement.{statement}
@@ -148,10 +148,11 @@ loop-again c =
       omega (arith, in-loop .loop-test .taken),
       c .before .before .before .repaired .given .1 ∙ l .inv .1,
       c .before .records .given .1 ∙ l .inv .2,
-      put-next (at-part in-loop .part-bytes .result) (l .i) (part (A .n) (A .sheet .now) (A .r) (A .ceiling) (A .lost .now) (A .input .now))
-          (λ i. reply-long (A .n) (A .sheet .now) (A .r) (A .ceiling) (A .lost .now) _ ∙ sym (at-part in-loop .part-bytes .ensures)) (A .repaired .now) (l .repaired) _ (l .inv .3)
+      put-record (at-part in-loop .part-bytes .result) (part (A .n) (A .sheet .now) (A .r) (A .ceiling) (A .lost .now) (A .input .now))
+          (λ i. reply-long (A .n) (A .sheet .now) (A .r) (A .ceiling) (A .lost .now) _ ∙ sym (at-part in-loop .part-bytes .ensures)) (A .repaired .now) (l .i) (l .repaired) _ (l .inv .3)
           (at-one .one .ensures .0 ∙ ap (λ (w : List ℕ). (stripReply (A .n) (A .sheet .now) (A .r) (A .ceiling) (A .lost .now) w) .bytes) e),
-      put-next headBytes (l .i) (head (A .n) (A .sheet .now) (A .r) (A .ceiling) (A .lost .now) (A .input .now)) (λ i. header-long ((reply (A .n) (A .sheet .now) (A .r) (A .ceiling) (A .lost .now) (A .input .now) i) .answer)) (A .records .now) (l .records) _ (l .inv .4)
+      put-record headBytes (head (A .n) (A .sheet .now) (A .r) (A .ceiling) (A .lost .now) (A .input .now))
+          (λ i. header-long ((reply (A .n) (A .sheet .now) (A .r) (A .ceiling) (A .lost .now) (A .input .now) i) .answer)) (A .records .now) (l .i) (l .records) _ (l .inv .4)
           (at-one .one .ensures .1 ∙ ap (λ (w : List ℕ). header ((stripReply (A .n) (A .sheet .now) (A .r) (A .ceiling) (A .lost .now) w) .answer)) e),
     )
 

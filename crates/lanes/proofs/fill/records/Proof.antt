@@ -1,8 +1,7 @@
 use mathlib.Core.Path.{_≡_, refl, ap, _∙_}
-use mathlib.Core.List.{List, _++_, flatten}
-use Prim.Native.Nat.{ℕ, _+_, _-_, _*_, _/_, _≤_}
+use mathlib.Core.List.{_++_, flatten}
+use Prim.Native.Nat.{ℕ, _-_, _*_, _/_, _≤_}
 use lib.ListN.{length, drop, length-take, length-drop}
-use borrow.Rule.Slice.PartMut.{putMid}
 use Rattle.bits.specs.Vectors.{tab}
 use Rattle.bits.specs.Rows.{row}
 use Rattle.bits.proofs.Records.{put-record}
@@ -80,8 +79,7 @@ loop-again c =
     let x : R .last .1 .1 .0 ≡ rowRecord (A .c) (row (A .w) (A .vals .now) (L .j)) = R .ensures ∙ ap (rowRecord (A .c)) (row-cut (A .vals .now) (A .w) (L .j)) in (
       omega (arith, c .before .before .before .before .before .loop-test .taken),
       c .before .out .given .1 ∙ L .inv .1,
-      ap (λ (o : List ℕ). putMid (L .j * 64) (L .j * 64 + 64 - L .j * 64) o (R .last .1 .1 .0)) (L .inv .2)
-          ∙ put-record 64 (λ (k : ℕ). rowRecord (A .c) (row (A .w) (A .vals .now) k)) (λ k. record-long (A .c) (row (A .w) (A .vals .now) k)) (A .out .now) (L .j) _ x,
+      put-record 64 (λ (k : ℕ). rowRecord (A .c) (row (A .w) (A .vals .now) k)) (λ k. record-long (A .c) (row (A .w) (A .vals .now) k)) (A .out .now) (L .j) _ _ (L .inv .2) x,
     )
 
 same-length : tie.Need-same-length Inv-loop μ-loop
