@@ -90,12 +90,12 @@ pub fn descend_rows(
     ) {
         return Descent::Misfit;
     }
-    let g = counting::unknowns(n, sheet, word);
-    if most < g {
-        return Descent::Over { g };
+    let found = counting::unknowns(n, sheet, word);
+    if most < found {
+        return Descent::Over { g: found };
     }
     let mut marks: [u8; meaning::limits::POSITIONS] = [0; meaning::limits::POSITIONS];
     let size = word.len();
     let m = word::run_marked(n, sheet, word, c, w, vals, &mut marks[..size], us, eqs);
-    Descent::Done { g, m }
+    Descent::Done { g: found, m }
 }

@@ -33,6 +33,10 @@ Stands v s i = twoAt s (i + i) ≡ getD v i 0 % 65536
 abbrev pub Spells : List ℕ → List ℕ → Type 0
 Spells v s = Stands v s 0 × Stands v s 1 × Stands v s 2 × Stands v s 3 × Stands v s 4
 
+-- the most bytes that a request may ask for as its output
+abbrev pub mostOut : ℕ
+mostOut = 140000
+
 -- there is room for the most that a request may give and ask for
 abbrev pub HasRoom : List ℕ → List ℕ → Type 0
-HasRoom room out = (length room ≡ 120000) × (length out ≡ 140000)
+HasRoom room out = (length room ≡ 120000) × (length out ≡ mostOut)

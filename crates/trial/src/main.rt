@@ -2,9 +2,12 @@
 // function of the other crates, so that any second implementation can be held to them. docs/TRIAL.md
 // says what a request and an answer are. Numbers are low byte first.
 ghost use mathlib.Core.Path.{_≡_};
-ghost use Prim.Native.Nat.{_+_, _<_, _%_, _/_};
+ghost use Prim.Native.Nat.{_+_, _<_, _≤_, _%_, _/_};
 ghost use lib.ListN.{length, replicate};
-ghost use Rattle.trial.specs.Layout.{twoAt, fourAt, Says, Spells, HasRoom};
+ghost use Rattle.trial.specs.Layout.{twoAt, fourAt, Says, Spells, HasRoom, mostOut};
+
+mod ops;
+
 use libc::STDERR_FILENO;
 use libc::STDIN_FILENO;
 use libc::STDOUT_FILENO;
@@ -28,9 +31,10 @@ struct Request {
     o: usize,
 }
 
-// What a call came to: an answer, or nothing where no call has the op.
+// What a call came to: an answer, the bytes that a view has, or nothing where no call has the op.
 enum Reply {
     Answered(Answer),
+    Viewed(usize),
     Unknown,
 }
 
@@ -44,7 +48,9 @@ fn call(
     b: &[u8],
     c: &[u8],
     out: &mut [u8],
-) -> Reply {
+) -> Reply
+    requires { ⌜ length (now out) ≤ mostOut ⌝ }
+{
     match op {
         0 => Reply::Answered(form::check_sheet(n, a, r)),
         1 => Reply::Answered(codec::encode(n, a, r, b, out)),
@@ -52,6 +58,9 @@ fn call(
         3 => Reply::Answered(codec::read_back(n, a, r, b, out)),
         4 => Reply::Answered(stream::answer(a, c, b, out)),
         5 => Reply::Answered(sheet_convert::convert(n, a, out)),
+        7 => Reply::Answered(strips::repair(n, a, r, ceiling, b, c, out)),
+        8 => Reply::Viewed(ops::put_view(a, n, r, out)),
+        15 => Reply::Answered(ops::repair_strips(n, r, a, c, b, out)),
         _ => Reply::Unknown,
     }
 }
@@ -153,7 +162,7 @@ fn write(s: &[u8]) -> bool {
 
 // Makes the call of a request on its body (a, b, c) and writes the answer; answers whether to go on.
 fn respond(q: Request, body: &[u8], out: &mut [u8]) -> bool
-    requires { ⌜ q .a + q .b + q .c ≡ length (now body) ⌝ }
+    requires { ⌜ (q .a + q .b + q .c ≡ length (now body)) × (length (now out) ≤ mostOut) ⌝ }
 {
     let i = q.a;
     let j = i + q.b;
@@ -168,13 +177,14 @@ fn respond(q: Request, body: &[u8], out: &mut [u8]) -> bool
         out,
     ) {
         Reply::Answered(answer) => write(&start(meaning::numbers(answer))) && write(out),
+        Reply::Viewed(bytes) => write(&start([0, bytes, 0, 0, 0])) && write(out),
         Reply::Unknown => false,
     }
 }
 
 // Reads the body of a request into the part lent for it, and responds; answers whether to go on.
 fn serve(q: Request, body: &mut [u8], out: &mut [u8]) -> bool
-    requires { ⌜ q .a + q .b + q .c ≡ length (now body) ⌝ }
+    requires { ⌜ (q .a + q .b + q .c ≡ length (now body)) × (length (now out) ≤ mostOut) ⌝ }
 {
     if !read(body) {
         return false;

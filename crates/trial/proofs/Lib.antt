@@ -1,0 +1,2 @@
+-- Fitting: what the ops on parts of a buffer leave.
+pub mod Fitting
