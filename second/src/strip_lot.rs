@@ -138,6 +138,24 @@ impl SampleStrips {
         table
     }
 
+    /// How many strips get each kind of answer under these marks, in words.
+    fn counts(&self, lost: &[u8]) -> String {
+        let records = self.answers(lost).records;
+        let codes: Vec<u16> = records
+            .chunks(HEADER_BYTES)
+            .map(|record| number(record, 0))
+            .collect();
+        let of = |wanted: u16| codes.iter().filter(|&&code| code == wanted).count();
+        format!(
+            "{} strips: {} whole, {} in part, {} inconsistent, {} refused",
+            codes.len(),
+            of(0),
+            of(1),
+            of(2),
+            codes.iter().filter(|&&code| code > 2).count(),
+        )
+    }
+
     /// The cartridges that are not settled under these marks, by the first strip.
     pub fn unsettled(&self, lost: &[u8]) -> Vec<usize> {
         let repaired = self.answers(lost).repaired;
@@ -171,15 +189,15 @@ From the root of the tree:
 
 `repaired` has {part} bytes for each strip: its records, with those of lost cartridges filled in, then a \
 mark for each cartridge, 1 where it is not settled and its record is zeros. Where a strip is refused or \
-inconsistent they are all 255. The second program says the same, and writes the answer records to a \
-file:
+inconsistent they are all 255. Standard error has a line for each strip, and last `{counts}`. The second \
+program says the same, and writes the answer records to a file:
 
     second repair examples/strips examples/strips/lost.bin records < examples/strips/strips.bin > repaired
 
 g: unknowns. m: equations. d: 2 to the d contents of each lane agree. Lane: the first inconsistent one.
 
 {table}
-All {LOST} cartridges are settled. With {further} more lost they are not:
+All {LOST} cartridges are settled. With {further} more lost they are not, and last comes `{more_counts}`:
 
     bin/repair examples/strips {list} < examples/strips/strips.bin > repaired
 
@@ -193,9 +211,11 @@ These files are made by `second lots` and held by `second compare-lots`.
             strip = CARTRIDGE_BYTES * CARTRIDGES,
             part = repaired_bytes(CARTRIDGES),
             lost = rising(&self.order[..LOST], ", "),
+            counts = self.counts(&self.lost()),
             table = self.table(&self.lost()),
             further = MORE_LOST - LOST,
             list = rising(&self.order[..MORE_LOST], " "),
+            more_counts = self.counts(&more),
             more_table = self.table(&more),
             unsettled = rising(&self.unsettled(&more), ", "),
         )

@@ -46,7 +46,7 @@ closed-none [] = refl
 closed-none (k ∷ ks) = refl
 
 -- a position is free, or closed and frozen, or neither
-closed-frees : (ks : List Rule) (o : List Bool) → ones (closedFrozen ks o) + frees ks ≤ length ks
+pub closed-frees : (ks : List Rule) (o : List Bool) → ones (closedFrozen ks o) + frees ks ≤ length ks
 closed-frees [] o = omega arith
 closed-frees (free ∷ ks) [] = omega (arith, closed-frees ks [], closed-none ks)
 closed-frees (frozen c m ∷ ks) [] = omega (arith, closed-frees ks [], closed-none ks)

@@ -1,6 +1,7 @@
 -- The lanes in which rows with no coefficient have the constant 1.
 --     AddedUpTo, add-none, add-next, add-all      the lanes of one row, 64 at a time
 --     bare-led, bare-added                        one row, with a coefficient and without
+--     zero-at                                     a list of zeros
 --     CollectedUpTo, collect-none, -next, -all    the lanes of all rows
 --     NoneUpTo, none-.., Sought, seek-..          the two searches
 --     place-below                                 the first place, by tests that are equal
@@ -82,7 +83,7 @@ pub record CollectedUpTo (c w : ℕ) (l b : List ℕ) (m i : ℕ) : Type 0 where
   pub some : i ≤ m
   pub lane : (t : ℕ) → t < 512 → laneIn b t ≡ not (consistent c (laneConstant c t) (bits.rows w i l))
 
-zero-at : (n k : ℕ) → _≡_ {A = ℕ} (getD (replicate n 0) k 0) 0
+pub zero-at : (n k : ℕ) → _≡_ {A = ℕ} (getD (replicate n 0) k 0) 0
 zero-at zero k = refl
 zero-at (suc n) zero = refl
 zero-at (suc n) (suc k) = zero-at n k

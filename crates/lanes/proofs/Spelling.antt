@@ -26,6 +26,7 @@ use Rattle.bits.proofs.Records.{wide-tab}
 use Rattle.gf2.specs.Rows.{rowsOf}
 use Rattle.gf2.specs.System.{led}
 use Rattle.reading.proofs.Cutting.{rows-agree}
+use Rattle.reading.proofs.Assembling.{map-tab}
 use Rattle.lanes.specs.Lanes.{packed, laneConstant, rowByte, rowRecord, rowMark, rowRepaired}
 use Rattle.lanes.specs.Inner.{LaneWord, PutEight, recordRows, markRows}
 
@@ -143,10 +144,6 @@ pub mark-bare : (c : ℕ) (x : Row) → led c x ≡ false → 0 ≡ rowMark c x
 mark-bare c x e = ap bit (sym e)
 
 -- ---- all of them
-
-map-tab : {A B : Type 0} (f : A → B) (n : ℕ) (g : ℕ → A) → map f (tab n g) ≡ tab n (λ (i : ℕ). f (g i))
-map-tab f zero g = refl
-map-tab {A} {B} f (suc n) g = ap {B = List B} (λ t. f (g 0) ∷ t) (map-tab f n (λ (i : ℕ). g (suc i)))
 
 module _ (c w : ℕ) (vals : List ℕ) where
   abbrev N : ℕ

@@ -1,5 +1,6 @@
 -- The strips put one behind the other, and the verdict on rows of w words.
 --     written          the three strips, and the bytes behind them; as-long: as many bytes as before
+--     map-tab          a table, each of its values mapped
 --     contradicted, unique-read, ambiguous-read     the three verdicts
 use mathlib.Core.Path.{_≡_, refl, sym, ap, ap₂, _∙_}
 use Prim.Native.Nat.{ℕ, zero, suc, _+_, _-_, _*_, _/_}
@@ -23,7 +24,7 @@ use Rattle.verdict.specs.Reading.{constant, rowSettled, rowFirst, rowLast, rowS
 use Rattle.reading.specs.Words.{agreeable, settledWords, firstWords, lastWords, sound}
 use Rattle.reading.proofs.Cutting.{rows-agree}
 
-map-tab : {A B : Type 0} (f : A → B) (n : ℕ) (g : ℕ → A) → map f (tab n g) ≡ tab n (λ (i : ℕ). f (g i))
+pub map-tab : {A B : Type 0} (f : A → B) (n : ℕ) (g : ℕ → A) → map f (tab n g) ≡ tab n (λ (i : ℕ). f (g i))
 map-tab f zero g = refl
 map-tab {A} {B} f (suc n) g = ap {B = List B} (λ t. f (g 0) ∷ t) (map-tab f n (λ (i : ℕ). g (suc i)))
 

@@ -43,24 +43,12 @@ use Rattle.reading.proofs.Cutting.{rows-agree}
 use Rattle.lanes.specs.Lanes.{rowReply}
 use Rattle.decoder.specs.Deciding.{systemRows}
 use Rattle.decoder.proofs.Systems.{many-rows}
+use Rattle.decoder.proofs.Descents.{closed-frees}
 use Rattle.strips.specs.Repairing.{stripReply}
 use Rattle.strips.specs.Placing.{Placed}
 use Rattle.strips.specs.Deciding.{laneVerdict, repairDeciding, Formed, Settling}
 use Rattle.strips.specs.Rooms.{mostWords}
 use Rattle.strips.proofs.Lanewise.{system-low, verdict-lanes}
-
-closed-none : (ks : List Rule) → ones (closedFrozen ks []) ≡ 0
-closed-none [] = refl
-closed-none (k ∷ ks) = refl
-
--- a position is free, or closed and frozen, or neither
-closed-frees : (ks : List Rule) (o : List Bool) → ones (closedFrozen ks o) + frees ks ≤ length ks
-closed-frees [] o = omega arith
-closed-frees (free ∷ ks) [] = omega (arith, closed-frees ks [], closed-none ks)
-closed-frees (frozen c m ∷ ks) [] = omega (arith, closed-frees ks [], closed-none ks)
-closed-frees (free ∷ ks) (b ∷ o) = omega (arith, closed-frees ks o)
-closed-frees (frozen c m ∷ ks) (true ∷ o) = omega (arith, closed-frees ks o)
-closed-frees (frozen c m ∷ ks) (false ∷ o) = omega (arith, closed-frees ks o)
 
 module _ (co wd n : ℕ) (s : List ℕ) (r c : ℕ) (strip w out vals us eqs : List ℕ) (F : Formed n s r c (length strip) (length w) (length out)) (hw : co + 9 ≡ wd) (nw : wd ≤ widest) (lo : c ≤ 64 * co)
     (lv : length vals ≡ 2 ^ n * wd) (lu : length us ≡ 2 ^ n * wd) (le : length eqs ≡ 2 ^ n * wd) where

@@ -16,6 +16,7 @@ use Rattle.bits.specs.Rows.{zeroed}
 use Rattle.bits.specs.Bytes.{Holds}
 use Rattle.bits.proofs.Tests.{eq-or-ne}
 use Rattle.bits.proofs.RowLaws.{row-fit, zeroed-fits, paste-all}
+use Rattle.lanes.proofs.Collecting.{zero-at}
 use Rattle.strips.specs.Placing.{PutLanes, Placed, lostSym, lostWord}
 
 -- ---- the words of one record
@@ -50,15 +51,10 @@ pub record PlacedUpTo (j c w n : ℕ) (strip v : List ℕ) : Type 0 where
   pub bare : (i q : ℕ) → i < n → q < c + 1 → getD v (i * w + q) 0 ≡ 0
   pub lanes : (i k : ℕ) → i < j → k < 8 → Holds 8 strip (i * 64 + 8 * k) (getD v (i * w + (c + 1 + k)) 0)
 
-getD-zeros : (n k : ℕ) → _≡_ {A = ℕ} (getD (replicate n 0) k 0) 0
-getD-zeros zero k = refl
-getD-zeros (suc n) zero = refl
-getD-zeros (suc n) (suc k) = getD-zeros n k
-
 pub place-start : (c w n : ℕ) (strip v v′ : List ℕ) → v′ ≡ zeroed v 0 (length v) → PlacedUpTo 0 c w n strip v′
 place-start c w n strip v v′ e =
     let z : v′ ≡ replicate (length v) 0 = e ∙ zeroed-fits v 0 (length v) (omega arith) ∙ paste-all v (replicate (length v) 0) (length v) refl (length-replicate (length v) 0) in
-    record { bare = λ i q h k. ap (λ (l : List ℕ). getD l (i * w + q) 0) z ∙ getD-zeros (length v) (i * w + q); lanes = λ i k p h. absurd (omega arith) }
+    record { bare = λ i q h k. ap (λ (l : List ℕ). getD l (i * w + q) 0) z ∙ zero-at (length v) (i * w + q); lanes = λ i k p h. absurd (omega arith) }
 
 module _ {j c w n : ℕ} {strip v v′ : List ℕ} (u : PlacedUpTo j c w n strip v) (hj : j < n) (hw : c + 9 ≡ w) (o : PutLanes (j * w + (c + 1)) (j * 64) strip v v′) where
   -- a place before the record's words, or behind them
