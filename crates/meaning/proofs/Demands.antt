@@ -44,29 +44,29 @@ m-of a = getD (numbersOf (a .answer)) 3 0
 abbrev pub d-of : Reply → ℕ
 d-of a = getD (numbersOf (a .answer)) 4 0
 
-at : (k : ℕ) {x y : List ℕ} → x ≡ y → getD x k 0 ≡ getD y k 0
+pub at : (k : ℕ) {x y : List ℕ} → x ≡ y → getD x k 0 ≡ getD y k 0
 at k p = ap (λ (l : List ℕ). getD l k 0) p
 
 -- ---- the verdict by the number of candidates
 
-abbrev codeBy : ℕ → ℕ
+abbrev pub codeBy : ℕ → ℕ
 codeBy zero = 2
 codeBy (suc zero) = 0
 codeBy (suc (suc k)) = 1
 
-abbrev dBy : ℕ → ℕ
+abbrev pub dBy : ℕ → ℕ
 dBy zero = 0
 dBy (suc zero) = 0
 dBy (suc (suc k)) = log2 (suc (suc k)) (suc (suc k))
 
 module _ (n g m : ℕ) (out : List ℕ) where
-  verdict-numbers : (cs : List (List Bool)) → numbersOf ((verdict n g m cs out) .answer) ≡ codeBy (length cs) ∷ 0 ∷ g ∷ m ∷ dBy (length cs) ∷ []
+  pub verdict-numbers : (cs : List (List Bool)) → numbersOf ((verdict n g m cs out) .answer) ≡ codeBy (length cs) ∷ 0 ∷ g ∷ m ∷ dBy (length cs) ∷ []
   unfolding verdict dimension
   verdict-numbers [] = refl
   verdict-numbers (x ∷ []) = refl
   verdict-numbers (x ∷ y ∷ cs) = refl
 
-  verdict-shown : (cs : List (List Bool)) → 0 < length cs → (verdict n g m cs out) .bytes ≡ strips n cs ++ drop (length (strips n cs)) out
+  pub verdict-shown : (cs : List (List Bool)) → 0 < length cs → (verdict n g m cs out) .bytes ≡ strips n cs ++ drop (length (strips n cs)) out
   unfolding verdict
   verdict-shown [] h = absurd (omega arith)
   verdict-shown (x ∷ []) h = refl
@@ -82,31 +82,31 @@ module _ (n g m : ℕ) (out : List ℕ) where
       verdict-shown cs h ∙ append-assoc (t ++ first cs) (last cs) (drop (length (strips n cs)) out) ∙ append-assoc t (first cs) (last cs ++ drop (length (strips n cs)) out) in
       ap (λ (b : List ℕ). getD b j 0) e ∙ List·getD-append t _ 0 j (omega arith) ∙ tab-at (2 ^ n) (settledAt cs) j 0 l
 
-code-one : (k : ℕ) → codeBy k ≡ 0 → k ≡ 1
+pub code-one : (k : ℕ) → codeBy k ≡ 0 → k ≡ 1
 code-one zero h = absurd (omega arith)
 code-one (suc zero) h = refl
 code-one (suc (suc k)) h = absurd (omega arith)
 
-code-none : (k : ℕ) → codeBy k ≡ 2 → k ≡ 0
+pub code-none : (k : ℕ) → codeBy k ≡ 2 → k ≡ 0
 code-none zero h = refl
 code-none (suc zero) h = absurd (omega arith)
 code-none (suc (suc k)) h = absurd (omega arith)
 
-code-more : (k : ℕ) → codeBy k ≡ 1 → (1 < k) × (dBy k ≡ log2 k k)
+pub code-more : (k : ℕ) → codeBy k ≡ 1 → (1 < k) × (dBy k ≡ log2 k k)
 code-more zero h = absurd (omega arith)
 code-more (suc zero) h = absurd (omega arith)
 code-more (suc (suc k)) h = (omega arith, refl)
 
-more-code : (k : ℕ) → 1 < k → (codeBy k ≡ 1) × (dBy k ≡ log2 k k)
+pub more-code : (k : ℕ) → 1 < k → (codeBy k ≡ 1) × (dBy k ≡ log2 k k)
 more-code zero h = absurd (omega arith)
 more-code (suc zero) h = absurd (omega arith)
 more-code (suc (suc k)) h = (refl, refl)
 
-code-small : (k : ℕ) → codeBy k ≤ 1 → 0 < k
+pub code-small : (k : ℕ) → codeBy k ≤ 1 → 0 < k
 code-small zero h = absurd (omega arith)
 code-small (suc k) h = omega arith
 
-code-not-18 : (k : ℕ) → codeBy k ≡ 18 → ⊥
+pub code-not-18 : (k : ℕ) → codeBy k ≡ 18 → ⊥
 code-not-18 zero h = omega arith
 code-not-18 (suc zero) h = omega arith
 code-not-18 (suc (suc k)) h = omega arith
@@ -127,7 +127,7 @@ module _ (n : ℕ) (s : List ℕ) (r c : ℕ) (w out : List ℕ) (ok : refuses (
   cs = candidates n ks r w
 
   -- 18, or the verdict
-  judged : decoding n s r c w out ≡ pick (ltb c g) (leaving out (TooMany g)) (verdict n g m cs out)
+  pub judged : decoding n s r c w out ≡ pick (ltb c g) (leaving out (TooMany g)) (verdict n g m cs out)
   unfolding decoding decodeRefusals
   judged =
       let v : Reply = verdict n g m cs out in
@@ -139,7 +139,7 @@ module _ (n : ℕ) (s : List ℕ) (r c : ℕ) (w out : List ℕ) (ok : refuses (
   pub under : g ≤ c → decoding n s r c w out ≡ verdict n g m cs out
   under h = judged ∙ rw (le-ltb c g h)
 
-  numbers-under : g ≤ c → numbersOf ((decoding n s r c w out) .answer) ≡ codeBy (length cs) ∷ 0 ∷ g ∷ m ∷ dBy (length cs) ∷ []
+  pub numbers-under : g ≤ c → numbersOf ((decoding n s r c w out) .answer) ≡ codeBy (length cs) ∷ 0 ∷ g ∷ m ∷ dBy (length cs) ∷ []
   numbers-under h = ap (λ (a : Reply). numbersOf (a .answer)) (under h) ∙ verdict-numbers n g m out cs
 
   -- demand 2: refused for size exactly when its unknowns pass the ceiling
@@ -190,7 +190,7 @@ pub record SameFate (n : ℕ) (a b : Reply) : Type 0 where
   pub equations : m-of a ≡ m-of b
   pub accepted : code a ≤ 1 → code b ≤ 1 → (code a ≡ code b) × (d-of a ≡ d-of b) × ((j : ℕ) → j < 2 ^ n → (getD (a .bytes) j 0 ≡ 2) ↔ (getD (b .bytes) j 0 ≡ 2))
 
-head-in : (cs : List (List Bool)) → 0 < length cs → (x : List Bool) × List·Memᴰ x cs
+pub head-in : (cs : List (List Bool)) → 0 < length cs → (x : List Bool) × List·Memᴰ x cs
 head-in [] h = absurd (omega arith)
 head-in (x ∷ cs) h = (x, List·Memᴰ·head refl)
 

@@ -6,11 +6,11 @@
 --     Ones                      its sequence: r ones, then the free bits
 --     Example                   the example with r = 6, by hand
 --     Affine, Candidates        rules, check and agreement; the list of candidates
+--     Strips                    the strips of a list of candidates
 --     Coset                     two words erased in the same places
 --     Open, Size, Gap           open positions; how many candidates there can be
 --     Dimension                 the number of candidates is 2 ^ d
 --     Encode                    one codeword a payload
---     Mono                      more read, never less known
 --     Refusals, Forms           tables of refusals; what is known where none applies
 --     Unique                    one codeword agrees exactly when every place is settled
 --     Demands                   demands 2 and 3 of `decoding`
@@ -32,13 +32,13 @@ pub mod Ones
 pub mod Example
 pub mod Affine
 pub mod Candidates
+pub mod Strips
 pub mod Coset
 pub mod Open
 pub mod Size
 pub mod Gap
 pub mod Dimension
 pub mod Encode
-pub mod Mono
 pub mod Refusals
 pub mod Forms
 pub mod Unique

@@ -1,6 +1,8 @@
 -- Tables of refusals: the first row that applies is given.
 --     first-none       where no row applies, the verdict is given
 --     first-append     a table may be tried in two parts
+--     first-refused    where a row applies, what stands after the table does not matter
+--     refused-is       and what is answered is answered by a row
 --     tried-done, tried-refused     a table tried by itself, before more rows
 --     done-none        a call that answers Done was refused by no row
 --     refused-untouched     a call that a row refuses leaves its buffer as found
@@ -9,7 +11,7 @@ use Prim.Native.Nat.{ℕ}
 use mathlib.Core.Bool.{Bool, true, false, _&&_, _||_, not, false≢true, true≢false}
 use mathlib.Core.List.{List, [], _∷_, _++_, append-nil}
 use Rattle.bits.specs.Vectors.{pick, all}
-use Rattle.bits.proofs.Tests.{or-false-l, or-false-r, and-r}
+use Rattle.bits.proofs.Tests.{or-false-l, or-false-r, and-l, and-r}
 use Rattle.meaning.specs.Answers.{isDone, Refusal, firstOf, refuses, Reply, leaving}
 use Rattle.meaning.specs.declared.Answer.{Answer}
 use Rattle.meaning.specs.declared.Answer.the-variants.{Done}
@@ -26,6 +28,24 @@ module _ {A : Type 0} (f : Answer → A) where
       go : (b : Bool) → b || refuses ts ≡ false → (refuses ts ≡ false → firstOf f ts z ≡ z) → pick b (f (t .answer)) (firstOf f ts z) ≡ z
       go true k g = absurd (true≢false k)
       go false k g = g k
+
+  -- what stands after a table of which a row applies
+  pub first-refused : (ts : List Refusal) (y z : A) → refuses ts ≡ true → firstOf f ts y ≡ firstOf f ts z
+  first-refused [] y z h = absurd (false≢true h)
+  first-refused (t ∷ ts) y z h = go (t .applies) h (first-refused ts y z)
+    where
+      go : (b : Bool) → b || refuses ts ≡ true → (refuses ts ≡ true → firstOf f ts y ≡ firstOf f ts z) → pick b (f (t .answer)) (firstOf f ts y) ≡ pick b (f (t .answer)) (firstOf f ts z)
+      go true k g = refl
+      go false k g = g k
+
+-- what each row's answer is, the answer is
+pub refused-is : (p : Answer → Bool) (out : List ℕ) (ts : List Refusal) (z : Reply) → all (λ (t : Refusal). p (t .answer)) ts ≡ true → refuses ts ≡ true → p ((firstOf (leaving out) ts z) .answer) ≡ true
+refused-is p out [] z a h = absurd (false≢true h)
+refused-is p out (t ∷ ts) z a h = go (t .applies) h (refused-is p out ts z (and-r (p (t .answer)) _ a))
+  where
+    go : (b : Bool) → b || refuses ts ≡ true → (refuses ts ≡ true → p ((firstOf (leaving out) ts z) .answer) ≡ true) → p ((pick b (leaving out (t .answer)) (firstOf (leaving out) ts z)) .answer) ≡ true
+    go true k g = and-l (p (t .answer)) _ a
+    go false k g = g k
 
 -- two parts refuse nothing: neither does
 pub none-append : (a b : List Refusal) → refuses (a ++ b) ≡ false → (refuses a ≡ false) × (refuses b ≡ false)

@@ -1,23 +1,19 @@
 -- The line of a record by the five numbers of its answer, and lines to be read beside the definition. Any strips stand behind.
 use mathlib.Core.Path.{_≡_, sym, refl}
-use Prim.Native.Nat.{ℕ, _+_, _*_, _/_, _%_, _<_}
-use native.Mathlib.Omega.{arith}
+use Prim.Native.Nat.{ℕ, _<_}
 use mathlib.Core.List.{List, [], _∷_, _++_, map, flatten}
 use Rattle.meaning.specs.Limits.{headBytes}
 use Rattle.meaning.specs.Stream.{twoBytes, header}
+use Rattle.meaning.proofs.Heading.{two-bytes}
 use Rattle.meaning.specs.declared.Answer.the-variants.{Unique, Ambiguous, BadRecord, BadSymbol, TooMany}
 use Rattle.show.specs.Text.{bytes, decimal, wide}
 use Rattle.show.proofs.Choosing.{line-is}
 use Rattle.show.specs.Line.{verdict, between, noAnswer, plainOf, refusalOf, saidOf, lineOf}
 
--- two bytes hold a number
-back : (x : ℕ) → x < 65536 → x ≡ x % 256 + 256 * (x / 256 % 256)
-back x h = omega arith
-
 pub line-of-numbers : (strips : List ℕ) (code place g m d : ℕ) → code < 65536 → place < 65536 → g < 65536 → m < 65536 → d < 65536
     → lineOf (flatten (map twoBytes (code ∷ place ∷ g ∷ m ∷ d ∷ [])) ++ strips) ≡ saidOf code place g m d ++ 10 ∷ []
 unfolding flatten
-line-of-numbers strips code place g m d h i j k l = sym (line-is _ (back code h) (back place i) (back g j) (back m k) (back d l))
+line-of-numbers strips code place g m d h i j k l = sym (line-is _ (two-bytes code h) (two-bytes place i) (two-bytes g j) (two-bytes m k) (two-bytes d l))
 
 module _ (strips : List ℕ) where
   unique : lineOf (header (Unique 12 345) ++ strips) ≡ bytes "unique        g  12  m 345  d   0" ++ 10 ∷ []

@@ -1,5 +1,4 @@
 -- The line of an answer record.
---     numberAt r i     the number in the bytes i and i + 1 of a record
 --     counted t n      a count behind its name
 --     verdict          a verdict with its counts
 --     between          a number between two texts
@@ -15,11 +14,8 @@ use mathlib.Core.List.{List, [], _∷_, _++_}
 use lib.ListN.{length, getD}
 use lib.Dec.{eqb}
 use Rattle.bits.specs.Vectors.{pick}
+pub use Rattle.meaning.specs.Stream.{numberAt}
 use Rattle.show.specs.Text.{bytes, wide}
-
--- low first
-abbrev pub numberAt : List ℕ → ℕ → ℕ
-numberAt r i = getD r i 0 + 256 * getD r (i + 1) 0
 
 -- in three places
 abbrev pub counted : List ℕ → ℕ → List ℕ

@@ -7,22 +7,20 @@ use mathlib.Core.Logic.{_⊎_, inl, inr}
 use Prim.Native.Nat.{ℕ, _+_, _-_, _*_, _^_, _≤_, _<_}
 use native.Mathlib.Omega.{arith}
 use mathlib.Core.Bool.{Bool, true, false}
-use mathlib.Core.List.{List, [], _∷_, _++_, map, List·Memᴰ, List·Memᴰ·head, List·Memᴰ·tail}
-use lib.ListN.{length, length-append, length-drop, length-map}
+use mathlib.Core.List.{List, [], _∷_, _++_, map, List·Memᴰ}
+use lib.ListN.{length, length-append, length-drop}
 use lib.Dec.{ltb}
 use lib.Pow.{pow-mono}
 use borrow.Author.Tests.{ltb-true, lt-ltb, eqb-true, not-false}
-use Rattle.bits.specs.Vectors.{bit, pick, ones, firstPlace}
-use Rattle.bits.proofs.Tests.{length-tab}
+use Rattle.bits.specs.Vectors.{pick, ones, firstPlace}
 use Rattle.meaning.specs.Limits.{largestN}
 use Rattle.meaning.specs.Sheet.{Rule, free, frozen, rules, badRecord}
 use Rattle.meaning.specs.Codewords.{candidates}
 use Rattle.meaning.specs.Open.{openFree, closedFrozen, openAll, unknowns, equations}
-use Rattle.meaning.specs.Strips.{settledAt, settled, last, strips, dimension}
+use Rattle.meaning.specs.Strips.{strips, dimension}
 use Rattle.meaning.specs.Answers.{Refusal, firstOf, refuses, Reply, leaving, sheetRefusals, wordRefusals, formRefusals, decodeRefusals, verdict, decoding}
 use Rattle.meaning.proofs.Sound.{length-rules}
-use Rattle.meaning.proofs.Candidates.{candidate}
-use Rattle.meaning.proofs.Polar.{length-polar}
+use Rattle.meaning.proofs.Strips.{candidate-long, strips-long}
 use Rattle.meaning.proofs.Dimension.{dimension-is}
 use Rattle.meaning.proofs.Gap.{d-le-g}
 use Rattle.meaning.proofs.Refusals.{first-none, none-append, refused-untouched}
@@ -45,28 +43,12 @@ module _ (P : Reply → Type 0) (out : List ℕ) (z : Reply) where
 
 -- ---- the length of the buffer
 
-candidate-long : (n : ℕ) (ks : List Rule) (r : ℕ) (w : List ℕ) (x : List Bool) → List·Memᴰ x (candidates n ks r w) → length x ≡ 2 ^ n
-candidate-long n ks r w x m = let (u, l, p, e) = candidate n ks r w x m in ap length (sym e) ∙ length-polar n u l
-
-last-long : (k : ℕ) (cs : List (List Bool)) → 0 < length cs → ((x : List Bool) → List·Memᴰ x cs → length x ≡ k) → length (last cs) ≡ k
-last-long k [] h f = absurd (omega arith)
-last-long k (x ∷ []) h f = length-map x bit ∙ f x (List·Memᴰ·head refl)
-last-long k (x ∷ y ∷ cs) h f = last-long k (y ∷ cs) (omega arith) (λ z m. f z (List·Memᴰ·tail m))
-
-strips-long : (n : ℕ) (x : List Bool) (cs : List (List Bool)) → ((z : List Bool) → List·Memᴰ z (x ∷ cs) → length z ≡ 2 ^ n) → length (strips n (x ∷ cs)) ≡ 3 * 2 ^ n
-unfolding strips settled
-strips-long n x cs f =
-    let a : length (settled (2 ^ n) (x ∷ cs)) ≡ 2 ^ n = length-tab (2 ^ n) (settledAt (x ∷ cs)) in
-    let b : length (map bit x) ≡ 2 ^ n = length-map x bit ∙ f x (List·Memᴰ·head refl) in
-    let c : length (last (x ∷ cs)) ≡ 2 ^ n = last-long (2 ^ n) (x ∷ cs) (omega arith) f in
-    simp length-append (omega (arith, a, b, c))
-
 verdict-long : (n g m : ℕ) (cs : List (List Bool)) (out : List ℕ) → ((z : List Bool) → List·Memᴰ z cs → length z ≡ 2 ^ n) → 3 * 2 ^ n ≤ length out
     → length ((verdict n g m cs out) .bytes) ≡ length out
 unfolding verdict
 verdict-long n g m [] out f h = refl
-verdict-long n g m (x ∷ []) out f h = let l = strips-long n x [] f in simp (length-append, length-drop) (omega (arith, l))
-verdict-long n g m (x ∷ y ∷ cs) out f h = let l = strips-long n x (y ∷ cs) f in simp (length-append, length-drop) (omega (arith, l))
+verdict-long n g m (x ∷ []) out f h = let l = strips-long n (x ∷ []) (omega arith) f in simp (length-append, length-drop) (omega (arith, l))
+verdict-long n g m (x ∷ y ∷ cs) out f h = let l = strips-long n (x ∷ y ∷ cs) (omega arith) f in simp (length-append, length-drop) (omega (arith, l))
 
 pub keeps-length : (n : ℕ) (s : List ℕ) (r c : ℕ) (w out : List ℕ) → length ((decoding n s r c w out) .bytes) ≡ length out
 unfolding decoding decodeRefusals formRefusals

@@ -1,0 +1,109 @@
+-- The symbols of a word w′ that is w with some erased ones filled in.
+--     filled-is            a symbol is as before, or was erased and is now 0 or 1
+--     filled-long          the words are equally long
+--     agrees-before        what agrees with w′ agrees with w
+--     agrees-at            a codeword agrees with a word at each place
+--     contrary             what agrees with w and not with w′ differs from w′ at a place that was filled in
+--     erased-before        what is erased in w′ is erased in w
+--     erased-fetched       w has as many erased symbols more as were filled in
+use mathlib.Core.Path.{_≡_, refl, sym, ap, _∙_}
+use mathlib.Core.Logic.{_⊎_, inl, inr, ⊎-elim}
+use Prim.Native.Nat.{ℕ, zero, suc, _+_, _<_}
+use native.Mathlib.Omega.{arith}
+use mathlib.Core.Bool.{Bool, true, false, _&&_, _||_, not, false≢true, true≢false}
+use mathlib.Core.List.{List, [], _∷_, map}
+use lib.ListN.{length, getD}
+use lib.Dec.{eqb, ltb}
+use borrow.Author.Tests.{eqb-true, ltb-true}
+use Rattle.bits.specs.Vectors.{bit, ones}
+use Rattle.bits.proofs.Tests.{and-l, and-r, and-i}
+use Rattle.meaning.specs.Codewords.{erased, fits, agrees}
+use Rattle.planning.specs.Filled.{filled, filledIn, fetched}
+
+-- ---- one symbol
+
+pub filled-is : (a b : ℕ) → filled a b ≡ true → (a ≡ b) ⊎ ((a ≡ 2) × (b < 2))
+filled-is a b h = go (eqb a b) refl h
+  where
+    go : (e : Bool) → eqb a b ≡ e → e || (eqb a 2 && ltb b 2) ≡ true → (a ≡ b) ⊎ ((a ≡ 2) × (b < 2))
+    go true q k = inl (eqb-true a b q)
+    go false q k = inr (eqb-true a 2 (and-l (eqb a 2) _ k), ltb-true b 2 (and-r (eqb a 2) _ k))
+
+two-fits : (a : ℕ) (x : Bool) → a ≡ 2 → fits a x ≡ true
+two-fits a x e = ap (λ (t : ℕ). fits t x) e
+
+low-read : (b : ℕ) → b < 2 → erased b ≡ false
+low-read zero h = refl
+low-read (suc zero) h = refl
+low-read (suc (suc b)) h = absurd (omega arith)
+
+-- ---- words
+
+pub filled-long : (w w′ : List ℕ) → filledIn w w′ ≡ true → length w ≡ length w′
+filled-long [] [] h = refl
+filled-long [] (b ∷ w′) h = absurd (false≢true h)
+filled-long (a ∷ w) [] h = absurd (false≢true h)
+filled-long (a ∷ w) (b ∷ w′) h = ap suc (filled-long w w′ (and-r (filled a b) _ h))
+
+pub agrees-before : (w w′ : List ℕ) → filledIn w w′ ≡ true → (x : List Bool) → agrees w′ x ≡ true → agrees w x ≡ true
+agrees-before [] w′ f x h = refl
+agrees-before (a ∷ w) [] f x h = absurd (false≢true f)
+agrees-before (a ∷ w) (b ∷ w′) f [] h = refl
+agrees-before (a ∷ w) (b ∷ w′) f (c ∷ x) h = and-i _ _ (one (filled-is a b (and-l (filled a b) _ f))) (agrees-before w w′ (and-r (filled a b) _ f) x (and-r (fits b c) _ h))
+  where
+    one : (a ≡ b) ⊎ ((a ≡ 2) × (b < 2)) → fits a c ≡ true
+    one (inl e) = rw e (and-l (fits b c) _ h)
+    one (inr (e, l)) = two-fits a c e
+
+pub agrees-at : (w : List ℕ) (x : List Bool) → agrees w x ≡ true → (j : ℕ) → j < length w → j < length x → fits (getD w j 0) (getD x j false) ≡ true
+agrees-at [] x h j k m = absurd (omega arith)
+agrees-at (a ∷ w) [] h j k m = absurd (omega arith)
+agrees-at (a ∷ w) (c ∷ x) h zero k m = and-l (fits a c) _ h
+agrees-at (a ∷ w) (c ∷ x) h (suc j) k m = agrees-at w x (and-r (fits a c) _ h) j (omega arith) (omega arith)
+
+-- at place j, which was filled in, x is not what was read
+abbrev pub Contrary : List ℕ → List ℕ → List Bool → Type 0
+Contrary w w′ x = (j : ℕ) × (j < length w) × (getD w j 0 ≡ 2) × (getD w′ j 0 < 2) × (fits (getD w′ j 0) (getD x j false) ≡ false)
+
+pub contrary : (w w′ : List ℕ) → filledIn w w′ ≡ true → (x : List Bool) → length x ≡ length w → agrees w x ≡ true → agrees w′ x ≡ false → Contrary w w′ x
+contrary [] [] f x l p q = absurd (true≢false q)
+contrary [] (b ∷ w′) f x l p q = absurd (false≢true f)
+contrary (a ∷ w) [] f x l p q = absurd (false≢true f)
+contrary (a ∷ w) (b ∷ w′) f [] l p q = absurd (true≢false q)
+contrary (a ∷ w) (b ∷ w′) f (c ∷ x) l p q = go (fits b c) refl q (λ k. contrary w w′ (and-r (filled a b) _ f) x (omega arith) (and-r (fits a c) _ p) k)
+  where
+    here : fits b c ≡ false → (a ≡ b) ⊎ ((a ≡ 2) × (b < 2)) → (a ≡ 2) × (b < 2)
+    here e (inl k) = absurd (true≢false (sym (and-l (fits a c) _ p) ∙ ap (λ (t : ℕ). fits t c) k ∙ e))
+    here e (inr k) = k
+
+    go : (t : Bool) → fits b c ≡ t → t && agrees w′ x ≡ false → (agrees w′ x ≡ false → Contrary w w′ x) → Contrary (a ∷ w) (b ∷ w′) (c ∷ x)
+    go true e k g = let (j, m, s, t, d) = g k in (suc j, omega arith, s, t, d)
+    go false e k g = let (s, t) = here e (filled-is a b (and-l (filled a b) _ f)) in (zero, omega arith, s, t, e)
+
+-- what es′ erases, es erases
+abbrev pub Fewer : List Bool → List Bool → Type 0
+Fewer [] [] = Unit {0}
+Fewer [] (e ∷ es) = ⊥
+Fewer (e ∷ es′) [] = ⊥
+Fewer (e′ ∷ es′) (e ∷ es) = (e′ ≡ true → e ≡ true) × Fewer es′ es
+
+pub erased-before : (w w′ : List ℕ) → filledIn w w′ ≡ true → Fewer (map erased w′) (map erased w)
+erased-before [] [] f = tt
+erased-before [] (b ∷ w′) f = absurd (false≢true f)
+erased-before (a ∷ w) [] f = absurd (false≢true f)
+erased-before (a ∷ w) (b ∷ w′) f = (one (filled-is a b (and-l (filled a b) _ f)), erased-before w w′ (and-r (filled a b) _ f))
+  where
+    one : (a ≡ b) ⊎ ((a ≡ 2) × (b < 2)) → erased b ≡ true → erased a ≡ true
+    one (inl e) k = ap erased e ∙ k
+    one (inr (e, l)) k = ap erased e
+
+pub erased-fetched : (w w′ : List ℕ) → filledIn w w′ ≡ true → ones (map erased w) ≡ ones (map erased w′) + fetched w w′
+erased-fetched [] [] f = refl
+erased-fetched [] (b ∷ w′) f = absurd (false≢true f)
+erased-fetched (a ∷ w) [] f = absurd (false≢true f)
+erased-fetched (a ∷ w) (b ∷ w′) f = omega (arith, one (eqb a b) refl (and-l (filled a b) _ f), erased-fetched w w′ (and-r (filled a b) _ f))
+  where
+    one : (e : Bool) → eqb a b ≡ e → e || (eqb a 2 && ltb b 2) ≡ true → bit (erased a) ≡ bit (erased b) + bit (not e)
+    one true q k = ap (λ (t : ℕ). bit (erased t)) (eqb-true a b q) ∙ omega arith
+    one false q k =
+        ap (λ (t : ℕ). bit (erased t)) (eqb-true a 2 (and-l (eqb a 2) _ k)) ∙ rw (low-read b (ltb-true b 2 (and-r (eqb a 2) _ k)))
