@@ -4,20 +4,22 @@
 --     agrees-before        what agrees with w′ agrees with w
 --     agrees-at            a codeword agrees with a word at each place
 --     contrary             what agrees with w and not with w′ differs from w′ at a place that was filled in
+--     filled-word          where an input is filled in, each of its words is
 --     erased-before        what is erased in w′ is erased in w
 --     erased-fetched       w has as many erased symbols more as were filled in
 use mathlib.Core.Path.{_≡_, refl, sym, ap, _∙_}
 use mathlib.Core.Logic.{_⊎_, inl, inr, ⊎-elim}
-use Prim.Native.Nat.{ℕ, zero, suc, _+_, _<_}
+use Prim.Native.Nat.{ℕ, zero, suc, _+_, _*_, _^_, _<_}
 use native.Mathlib.Omega.{arith}
 use mathlib.Core.Bool.{Bool, true, false, _&&_, _||_, not, false≢true, true≢false}
 use mathlib.Core.List.{List, [], _∷_, map}
-use lib.ListN.{length, getD}
+use lib.ListN.{length, take, drop, getD}
 use lib.Dec.{eqb, ltb}
 use borrow.Author.Tests.{eqb-true, ltb-true}
 use Rattle.bits.specs.Vectors.{bit, ones}
 use Rattle.bits.proofs.Tests.{and-l, and-r, and-i}
 use Rattle.meaning.specs.Codewords.{erased, fits, agrees}
+use Rattle.meaning.specs.Stream.{pieceAt, wordAt}
 use Rattle.planning.specs.Filled.{filled, filledIn, fetched}
 
 -- ---- one symbol
@@ -79,6 +81,29 @@ contrary (a ∷ w) (b ∷ w′) f (c ∷ x) l p q = go (fits b c) refl q (λ k. 
     go : (t : Bool) → fits b c ≡ t → t && agrees w′ x ≡ false → (agrees w′ x ≡ false → Contrary w w′ x) → Contrary (a ∷ w) (b ∷ w′) (c ∷ x)
     go true e k g = let (j, m, s, t, d) = g k in (suc j, omega arith, s, t, d)
     go false e k g = let (s, t) = here e (filled-is a b (and-l (filled a b) _ f)) in (zero, omega arith, s, t, e)
+
+-- ---- a part of a longer word
+
+filled-take : (i : ℕ) (w w′ : List ℕ) → filledIn w w′ ≡ true → filledIn (take i w) (take i w′) ≡ true
+filled-take zero w w′ f = refl
+filled-take (suc i) [] [] f = refl
+filled-take (suc i) [] (b ∷ w′) f = absurd (false≢true f)
+filled-take (suc i) (a ∷ w) [] f = absurd (false≢true f)
+filled-take (suc i) (a ∷ w) (b ∷ w′) f = and-i _ _ (and-l (filled a b) _ f) (filled-take i w w′ (and-r (filled a b) _ f))
+
+filled-drop : (i : ℕ) (w w′ : List ℕ) → filledIn w w′ ≡ true → filledIn (drop i w) (drop i w′) ≡ true
+filled-drop zero w w′ f = f
+filled-drop (suc i) [] [] f = refl
+filled-drop (suc i) [] (b ∷ w′) f = absurd (false≢true f)
+filled-drop (suc i) (a ∷ w) [] f = absurd (false≢true f)
+filled-drop (suc i) (a ∷ w) (b ∷ w′) f = filled-drop i w w′ (and-r (filled a b) _ f)
+
+-- word k of an input
+pub filled-word : (n : ℕ) (input input′ : List ℕ) → filledIn input input′ ≡ true → (k : ℕ) → filledIn (wordAt n input k) (wordAt n input′ k) ≡ true
+unfolding pieceAt
+filled-word n input input′ f k = filled-take (2 ^ n) _ _ (filled-drop (k * 2 ^ n) input input′ f)
+
+-- ---- erased symbols
 
 -- what es′ erases, es erases
 abbrev pub Fewer : List Bool → List Bool → Type 0

@@ -5,16 +5,20 @@
 --     record-count                    as many records as input bytes divided by N, rounded up
 --     record-at                       record k, at its byte, is the answer to word k
 --     alone                           record k depends on word k alone
+--     record-read                     the numbers and strips of record k are what decoding word k answers and leaves in a buffer of 3N bytes
+--     record-more-read                word k with some erased symbols filled in: never less is known, by the two records
+--     record-lowered, record-raised   with another ceiling record k is the same in every byte, or that of 18
 --     cut                             an input cut at a multiple of N: the parts, answered one after the other, give the same bytes
 --     cut-records, cut-bytes          the records of any number of parts, all but the last of whole words, are those of the whole input
 --     cut-all                         and so are the bytes that a call for each part leaves: what `recover` writes, by runs of whole words and then
 --                                     the rest, are the bytes of one call on the whole input
 use mathlib.Core.Path.{_≡_, refl, sym, ap, ap₂, _∙_}
+use mathlib.Core.Logic.{_⊎_, inl, inr, ⊎-elim}
 use Prim.Native.Nat.{ℕ, _*_, _^_, _≤_, _<_}
 use native.Mathlib.Omega.{arith}
 use mathlib.Core.Bool.{Bool, true, false, true≢false}
 use mathlib.Core.List.{List, [], _∷_, _++_, map, flatten}
-use lib.ListN.{length, take, drop, getD}
+use lib.ListN.{length, take, drop, getD, replicate}
 use lib.Dec.{ltb}
 use borrow.Author.Tests.{lt-ltb, le-ltb}
 use lib.Pow.{pow-pos}
@@ -24,13 +28,21 @@ use Rattle.bits.specs.Rows.{row}
 use Rattle.bits.proofs.Tests.{length-tab, tab-at}
 use Rattle.bits.proofs.RowLaws.{length-flatten}
 use Rattle.bits.proofs.Records.{flatten-append, record-of}
-use Rattle.meaning.specs.Limits.{largestN}
-use Rattle.meaning.specs.Answers.{Reply, isDone, leaving, writing}
-use Rattle.meaning.specs.Stream.{answerBytes, answerRecord, sizeOf, roundedUp, wordAt, records, streaming}
+use Rattle.meaning.specs.Limits.{largestN, largestCeiling}
+use Rattle.meaning.specs.Sheet.{rules}
+use Rattle.meaning.specs.Open.{unknowns}
+use Rattle.meaning.specs.Answers.{numbersOf, Reply, isDone, leaving, writing, decoding}
+use Rattle.meaning.specs.Stream.{header, answerBytes, padded, answerRecord, refusedRecord, numbersIn, stripsIn, sizeOf, roundedUp, wordAt, records, streaming}
 use Rattle.meaning.specs.declared.Answer.{Answer}
-use Rattle.meaning.specs.declared.Answer.the-variants.{Done, ShortOutput}
+use Rattle.meaning.specs.declared.Answer.the-variants.{Done, ShortOutput, TooMany}
 use Rattle.meaning.proofs.Determined.{reply-determined}
 use Rattle.meaning.proofs.Cutting.{WholePieces, pieces-cut, cut-list, cut-flat}
+use Rattle.planning.specs.Filled.{filledIn}
+use Rattle.planning.specs.MoreKnown.{codeOf, formed, MoreKnown}
+use Rattle.planning.proofs.Known.{more-known}
+use Rattle.planning.proofs.Ceiling.{lowered, raised}
+use Rattle.stream.proofs.ReadOff.{numbers-off, strips-off}
+use Rattle.stream.proofs.Untouched.{untouched-record}
 use Rattle.stream.proofs.Counting.{records-words}
 use Rattle.stream.proofs.Streaming.{recordAt, records-wide}
 
@@ -81,6 +93,29 @@ module _ (s ch : List ℕ) (h : sizeOf s ≤ largestN) (two : length ch ≡ 2) w
       → (k : ℕ) → k < roundedUp (length input) (2 ^ n) → k < roundedUp (length input′) (2 ^ n) → wordAt n input k ≡ wordAt n input′ k → row answerBytes x k ≡ row answerBytes x′ k
   alone input out x input′ out′ x′ p p′ k l l′ e = record-at input out x p k l ∙ ap answerTo e ∙ sym (record-at input′ out′ x′ p′ k l′)
 
+  -- ---- record k, read back
+
+  -- what decoding a word answers, and leaves in a buffer of 3N bytes
+  abbrev pub decodedTo : List ℕ → Reply
+  decodedTo w = decoding n s (getD ch 0 0) (getD ch 1 0) w (replicate (3 * 2 ^ n) 255)
+
+  pub record-read : (input out x : List ℕ) → leaving x Done ≡ streaming s ch input out → (k : ℕ) → k < roundedUp (length input) (2 ^ n)
+      → (numbersIn (row answerBytes x k) ≡ numbersOf (decodedTo (wordAt n input k) .answer)) × (stripsIn n (row answerBytes x k) ≡ decodedTo (wordAt n input k) .bytes)
+  record-read input out x p k l =
+      let e = record-at input out x p k l in
+      let w : List ℕ = wordAt n input k in
+      (ap numbersIn e ∙ numbers-off n s (getD ch 0 0) (getD ch 1 0) w h, ap (stripsIn n) e ∙ strips-off n s (getD ch 0 0) (getD ch 1 0) w h)
+
+  -- word k with more read; neither record is a refusal for any reason but 18
+  pub record-more-read : (input out x input′ out′ x′ : List ℕ) → leaving x Done ≡ streaming s ch input out → leaving x′ Done ≡ streaming s ch input′ out′
+      → (k : ℕ) → k < roundedUp (length input) (2 ^ n) → k < roundedUp (length input′) (2 ^ n) → filledIn (wordAt n input k) (wordAt n input′ k) ≡ true
+      → formed (numbersIn (row answerBytes x k)) ≡ true → formed (numbersIn (row answerBytes x′ k)) ≡ true
+      → MoreKnown n (wordAt n input k) (wordAt n input′ k) (numbersIn (row answerBytes x k)) (stripsIn n (row answerBytes x k)) (numbersIn (row answerBytes x′ k)) (stripsIn n (row answerBytes x′ k))
+  record-more-read input out x input′ out′ x′ p p′ k l l′ f ok ok′ =
+      let (v, b) = record-read input out x p k l in
+      let (v′, b′) = record-read input′ out′ x′ p′ k l′ in
+      rw (v, b, v′, b′) (more-known n s (getD ch 0 0) (getD ch 1 0) (wordAt n input k) (wordAt n input′ k) f (replicate (3 * 2 ^ n) 255) (replicate (3 * 2 ^ n) 255) (rw v at ok) (rw v′ at ok′))
+
   -- the bytes of the records of an input
   abbrev pub recordBytesOf : List ℕ → List ℕ → List ℕ
   recordBytesOf input x = take (roundedUp (length input) (2 ^ n) * answerBytes) x
@@ -97,6 +132,43 @@ module _ (s ch : List ℕ) (h : sizeOf s ≤ largestN) (two : length ch ≡ 2) w
   cut a b m la out x outa xa outb xb p pa pb =
       records-bytes (a ++ b) out x p ∙ ap flatten (records-cut a b m la) ∙ flatten-append (records s ch a) (records s ch b)
       ∙ ap₂ {C = List ℕ} _++_ (sym (records-bytes a outa xa pa)) (sym (records-bytes b outb xb pb))
+
+-- ---- two choices with the same r, the ceiling of the second no lower
+
+module _ (s ch ch′ : List ℕ) (h : sizeOf s ≤ largestN) (two : length ch ≡ 2) (two′ : length ch′ ≡ 2)
+    (same : getD ch 0 0 ≡ getD ch′ 0 0) (up : getD ch 1 0 ≤ getD ch′ 1 0) (limit : getD ch′ 1 0 ≤ largestCeiling)
+    (input out x out′ x′ : List ℕ) (p : leaving x Done ≡ streaming s ch input out) (p′ : leaving x′ Done ≡ streaming s ch′ input out′) (k : ℕ) (l : k < roundedUp (length input) (2 ^ sizeOf s)) where
+  abbrev size : ℕ
+  size = sizeOf s
+
+  abbrev word : List ℕ
+  word = wordAt size input k
+
+  -- the unknowns of word k
+  abbrev g : ℕ
+  g = unknowns size (rules size s) word
+
+  -- the record that a reply is laid into
+  abbrev laidOut : Reply → List ℕ
+  laidOut t = header (t .answer) ++ padded (take (2 ^ size) (t .bytes)) ++ padded (take (2 ^ size) (drop (2 ^ size) (t .bytes))) ++ padded (drop (2 * 2 ^ size) (t .bytes))
+
+  abbrev decodedUnder : ℕ → Reply
+  decodedUnder c = decoding size s (getD ch 0 0) c word (replicate (3 * 2 ^ size) 255)
+
+  same-records : decodedUnder (getD ch 1 0) ≡ decodedUnder (getD ch′ 1 0) → row answerBytes x k ≡ row answerBytes x′ k
+  unfolding answerRecord
+  same-records q =
+      record-at s ch h two input out x p k l ∙ ap laidOut q ∙ ap (λ (r : ℕ). answerRecord size s r (getD ch′ 1 0) word) same ∙ sym (record-at s ch′ h two′ input out′ x′ p′ k l)
+
+  pub record-lowered : (row answerBytes x k ≡ row answerBytes x′ k) ⊎ ((row answerBytes x k ≡ refusedRecord (TooMany g)) × (getD ch 1 0 < g))
+  record-lowered =
+      ⊎-elim (λ q. inl (same-records q))
+      (λ (q, c). inr (record-at s ch h two input out x p k l ∙ untouched-record size s (getD ch 0 0) (getD ch 1 0) word (TooMany g) h q, c))
+      (lowered size s (getD ch 0 0) (getD ch 1 0) (getD ch′ 1 0) word (replicate (3 * 2 ^ size) 255) up limit)
+
+  pub record-raised : (codeOf (numbersIn (row answerBytes x k)) ≡ 18 → ⊥) → row answerBytes x′ k ≡ row answerBytes x k
+  record-raised c =
+      sym (same-records (sym (raised size s (getD ch 0 0) (getD ch 1 0) (getD ch′ 1 0) word (replicate (3 * 2 ^ size) 255) up limit (λ q. c (ap codeOf (record-read s ch h two input out x p k l .0) ∙ q)))))
 
 -- ---- a result that is not done
 
