@@ -1,5 +1,5 @@
 -- More read, never less known, of `decoding`: the word w′ is w with some erased symbols filled in.
---     formed-none     an answer that is not refused for any reason but 18 is that to a word without a fault of form
+--     formed-none, none-formed     an answer is not refused for any reason but 18 exactly where no fault of form is found
 --     by-form         the table of form is tried first
 --     g-answered      and its g is the number of unknowns, in 18 too
 --     balanced        under the ceiling its g and m are bound to the number of erased symbols
@@ -63,6 +63,19 @@ module _ (n : ℕ) (s : List ℕ) (r c : ℕ) (w out : List ℕ) where
   refused-form h =
       let p : Answer → Bool = λ a. not (formed (numbersOf a)) in
       ap (λ (t : Reply). p (t .answer)) by-form ∙ refused-is p out (formRefusals n s r c w out) (pick (ltb c g) (leaving out (TooMany g)) (verdict n g m cs out)) refl h
+
+  -- and the other way round
+  pub none-formed : refuses (formRefusals n s r c w out) ≡ false → formed (numbers reply) ≡ true
+  none-formed ok =
+      ⊎-elim
+      (λ (h : g ≤ c). ap (λ (t : Reply). formed (numbers t)) (under n s r c w out ok h) ∙ ap formed (verdict-numbers n g m out cs) ∙ told-formed (length cs))
+      (λ h. ap (λ (t : Reply). formed (numbers t)) (over n s r c w out ok h))
+      (le-or-lt g c)
+    where
+      told-formed : (k : ℕ) → formed (codeBy k ∷ 0 ∷ g ∷ m ∷ dBy k ∷ []) ≡ true
+      told-formed zero = refl
+      told-formed (suc zero) = refl
+      told-formed (suc (suc k)) = refl
 
   module _ (ok : formed (numbers reply) ≡ true) where
     pub formed-none : refuses (formRefusals n s r c w out) ≡ false

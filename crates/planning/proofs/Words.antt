@@ -1,6 +1,7 @@
 -- The symbols of a word w′ that is w with some erased ones filled in.
 --     filled-is            a symbol is as before, or was erased and is now 0 or 1
 --     filled-long          the words are equally long
+--     filled-iff           the definition, place by place
 --     agrees-before        what agrees with w′ agrees with w
 --     agrees-at            a codeword agrees with a word at each place
 --     contrary             what agrees with w and not with w′ differs from w′ at a place that was filled in
@@ -8,14 +9,14 @@
 --     erased-before        what is erased in w′ is erased in w
 --     erased-fetched       w has as many erased symbols more as were filled in
 use mathlib.Core.Path.{_≡_, refl, sym, ap, _∙_}
-use mathlib.Core.Logic.{_⊎_, inl, inr, ⊎-elim}
+use mathlib.Core.Logic.{_⊎_, inl, inr, _↔_}
 use Prim.Native.Nat.{ℕ, zero, suc, _+_, _*_, _^_, _<_}
 use native.Mathlib.Omega.{arith}
 use mathlib.Core.Bool.{Bool, true, false, _&&_, _||_, not, false≢true, true≢false}
 use mathlib.Core.List.{List, [], _∷_, map}
 use lib.ListN.{length, take, drop, getD}
 use lib.Dec.{eqb, ltb}
-use borrow.Author.Tests.{eqb-true, ltb-true}
+use borrow.Author.Tests.{eqb-true, ltb-true, eq-eqb}
 use Rattle.bits.specs.Vectors.{bit, ones}
 use Rattle.bits.proofs.Tests.{and-l, and-r, and-i}
 use Rattle.meaning.specs.Codewords.{erased, fits, agrees}
@@ -23,6 +24,15 @@ use Rattle.meaning.specs.Stream.{pieceAt, wordAt}
 use Rattle.planning.specs.Filled.{filled, filledIn, fetched}
 
 -- ---- one symbol
+
+two-filled : (b : ℕ) → b < 2 → filled 2 b ≡ true
+two-filled zero h = refl
+two-filled (suc zero) h = refl
+two-filled (suc (suc b)) h = absurd (omega arith)
+
+is-filled : (a b : ℕ) → (a ≡ b) ⊎ ((a ≡ 2) × (b < 2)) → filled a b ≡ true
+is-filled a b (inl e) = rw (eq-eqb a b e)
+is-filled a b (inr (e, l)) = ap (λ (t : ℕ). filled t b) e ∙ two-filled b l
 
 pub filled-is : (a b : ℕ) → filled a b ≡ true → (a ≡ b) ⊎ ((a ≡ 2) × (b < 2))
 filled-is a b h = go (eqb a b) refl h
@@ -46,6 +56,25 @@ filled-long [] [] h = refl
 filled-long [] (b ∷ w′) h = absurd (false≢true h)
 filled-long (a ∷ w) [] h = absurd (false≢true h)
 filled-long (a ∷ w) (b ∷ w′) h = ap suc (filled-long w w′ (and-r (filled a b) _ h))
+
+pub filled-at : (w w′ : List ℕ) → filledIn w w′ ≡ true → (j : ℕ) → (getD w j 0 ≡ getD w′ j 0) ⊎ ((getD w j 0 ≡ 2) × (getD w′ j 0 < 2))
+filled-at [] [] f j = inl refl
+filled-at [] (b ∷ w′) f j = absurd (false≢true f)
+filled-at (a ∷ w) [] f j = absurd (false≢true f)
+filled-at (a ∷ w) (b ∷ w′) f zero = filled-is a b (and-l (filled a b) _ f)
+filled-at (a ∷ w) (b ∷ w′) f (suc j) = filled-at w w′ (and-r (filled a b) _ f) j
+
+at-filled : (w w′ : List ℕ) → length w ≡ length w′ → ((j : ℕ) → j < length w → (getD w j 0 ≡ getD w′ j 0) ⊎ ((getD w j 0 ≡ 2) × (getD w′ j 0 < 2))) → filledIn w w′ ≡ true
+at-filled [] [] l h = refl
+at-filled [] (b ∷ w′) l h = absurd (omega arith)
+at-filled (a ∷ w) [] l h = absurd (omega arith)
+at-filled (a ∷ w) (b ∷ w′) l h = and-i _ _ (is-filled a b (h zero (omega arith))) (at-filled w w′ (omega arith) (λ j k. h (suc j) (omega arith)))
+
+-- the definition, place by place
+pub filled-iff : (w w′ : List ℕ) → (filledIn w w′ ≡ true) ↔ ((length w ≡ length w′) × ((j : ℕ) → j < length w → (getD w j 0 ≡ getD w′ j 0) ⊎ ((getD w j 0 ≡ 2) × (getD w′ j 0 < 2))))
+filled-iff w w′ = (λ f. (filled-long w w′ f, λ j l. filled-at w w′ f j), λ (l, h). at-filled w w′ l h)
+
+-- ---- what agrees
 
 pub agrees-before : (w w′ : List ℕ) → filledIn w w′ ≡ true → (x : List Bool) → agrees w′ x ≡ true → agrees w x ≡ true
 agrees-before [] w′ f x h = refl
