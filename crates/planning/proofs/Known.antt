@@ -13,7 +13,7 @@ use mathlib.Core.Bool.{Bool, true, false, not, true≢false}
 use mathlib.Core.List.{List, [], _∷_, _++_, map, Sublistᴰ, Sublistᴰ·slnil, Sublistᴰ·cons, Sublistᴰ·cons-cons}
 use lib.ListN.{length, take, drop, getD}
 use lib.Dec.{ltb}
-use lib.Pow.{pow-lt}
+use lib.Pow.{pow-lt, pow-add}
 use borrow.Author.Tests.{ltb-true, ltb-false}
 use Rattle.bits.specs.Vectors.{pick, ones}
 use Rattle.bits.proofs.Tests.{le-or-lt}
@@ -33,6 +33,7 @@ use Rattle.meaning.proofs.Demands.{at, codeBy, dBy, verdict-numbers, verdict-sh
 use Rattle.planning.specs.Filled.{filledIn, fetched}
 use Rattle.planning.specs.MoreKnown.{codeOf, gOf, mOf, dOf, formed, strip, NotLater, OpenFetched, MoreKnown}
 use Rattle.planning.proofs.Among.{sub-length, among, fewer, settled-kept, narrowed, fewer-by-fetching, all-left}
+use Rattle.planning.proofs.Halving.{halved-all}
 use Rattle.planning.proofs.Counts.{balance, fewer-unknowns, more-equations, counts-moved}
 
 abbrev pub numbers : Reply → List ℕ
@@ -122,16 +123,16 @@ some-d zero h = absurd (omega arith)
 some-d (suc zero) h = refl
 some-d (suc (suc k)) h = refl
 
--- of two lists of candidates, the one that is no longer has no larger d
-lower-d : (n : ℕ) (ks : List Rule) (r : ℕ) (w w′ : List ℕ) → 0 < length (candidates n ks r w′) → length (candidates n ks r w′) ≤ length (candidates n ks r w)
-    → dBy (length (candidates n ks r w′)) ≤ dBy (length (candidates n ks r w))
+-- of two lists of candidates, neither of them empty, one that is at most 2 ^ k times as long has a d that is larger by k at most
+d-within : (n : ℕ) (ks : List Rule) (r : ℕ) (w w′ : List ℕ) (k : ℕ) → 0 < length (candidates n ks r w) → 0 < length (candidates n ks r w′)
+    → length (candidates n ks r w) ≤ length (candidates n ks r w′) * 2 ^ k → dBy (length (candidates n ks r w)) ≤ dBy (length (candidates n ks r w′)) + k
 unfolding dimension
-lower-d n ks r w w′ h k =
+d-within n ks r w w′ k h h′ l =
     let cs : List (List Bool) = candidates n ks r w in
     let cs′ : List (List Bool) = candidates n ks r w′ in
-    let p : length cs ≡ 2 ^ dimension cs = dimension-is n ks r w (omega arith) in
-    let p′ : length cs′ ≡ 2 ^ dimension cs′ = dimension-is n ks r w′ h in
-    rw (some-d (length cs) (omega arith), some-d (length cs′) h) (pow-back (dimension cs′) (dimension cs) (omega arith))
+    let p : length cs ≡ 2 ^ dimension cs = dimension-is n ks r w h in
+    let p′ : length cs′ * 2 ^ k ≡ 2 ^ (dimension cs′ + k) = ap (λ (t : ℕ). t * 2 ^ k) (dimension-is n ks r w′ h′) ∙ sym (pow-add 2 (dimension cs′) k) in
+    rw (some-d (length cs) h, some-d (length cs′) h′) (pow-back (dimension cs) (dimension cs′ + k) (omega (arith, l, p, p′)))
 
 -- ---- a verdict's numbers and strips
 
@@ -231,7 +232,8 @@ module _ (n : ℕ) (ks : List Rule) (r : ℕ) (w w′ : List ℕ) (f : filledIn 
         stays-inconsistent = λ p.
             let e : length cs₂ ≡ 0 = omega (arith, code-none (length cs₁) (sym (at 0 a₁) ∙ p)) in
             at 0 a₂ ∙ ap codeBy e;
-        dimension = λ p q. rw (at 4 a₁, at 4 a₂) (lower-d n ks r w w′ (some₂ q) no-more);
+        dimension = λ p q. rw (at 4 a₁, at 4 a₂) (omega (arith, d-within n ks r w′ w 0 (some₂ q) (some₁ p) (omega arith)));
+        one-each = λ p q. rw (at 4 a₁, at 4 a₂) (d-within n ks r w w′ (fetched w w′) (some₁ p) (some₂ q) (halved-all n ks r w w′ f lw (some₂ q)));
         stays-settled = λ p q j l h.
             let z₁ = settled-told n ks r w g₁ m₁ out (some₁ p) j l in
             let z₂ = settled-told n ks r w′ g₂ m₂ out′ (some₂ q) j l in
@@ -279,6 +281,7 @@ module _ (n : ℕ) (s : List ℕ) (r c : ℕ) (w w′ : List ℕ) (f : filledIn 
       equations = λ h. absurd (h refl);
       stays-inconsistent = λ p. absurd (omega arith);
       dimension = λ p. absurd (omega arith);
+      one-each = λ p. absurd (omega arith);
       stays-settled = λ p. absurd (omega arith);
       narrows = λ p. absurd (omega arith);
       lower-by-fetching = λ p. absurd (omega arith);

@@ -49,6 +49,9 @@ low-read zero h = refl
 low-read (suc zero) h = refl
 low-read (suc (suc b)) h = absurd (omega arith)
 
+pub filled-self : (a : ℕ) → filled a a ≡ true
+filled-self a = is-filled a a (inl refl)
+
 -- ---- words
 
 pub filled-long : (w w′ : List ℕ) → filledIn w w′ ≡ true → length w ≡ length w′

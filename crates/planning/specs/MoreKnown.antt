@@ -53,8 +53,10 @@ pub record MoreKnown (n : ℕ) (w w′ v b v′ b′ : List ℕ) : Type 0 where
   pub equations : (codeOf v ≡ 18 → ⊥) → (mOf v ≤ mOf v′) × (mOf v′ + gOf v ≡ mOf v + gOf v′ + fetched w w′)
   -- inconsistent stays inconsistent
   pub stays-inconsistent : codeOf v ≡ 2 → codeOf v′ ≡ 2
-  -- if neither is refused or inconsistent, d does not grow, every settled place keeps its value, and first and last stay or move towards each other
+  -- if neither is refused or inconsistent, d does not grow, and each symbol lowers it by one at most
   pub dimension : codeOf v ≤ 1 → codeOf v′ ≤ 1 → dOf v′ ≤ dOf v
+  pub one-each : codeOf v ≤ 1 → codeOf v′ ≤ 1 → dOf v ≤ dOf v′ + fetched w w′
+  -- every settled place keeps its value, and first and last stay or move towards each other
   pub stays-settled : codeOf v ≤ 1 → codeOf v′ ≤ 1 → (j : ℕ) → j < 2 ^ n → (getD b j 0 ≡ 2 → ⊥) → getD b′ j 0 ≡ getD b j 0
   pub narrows : codeOf v ≤ 1 → codeOf v′ ≤ 1 → NotLater n (strip n 1 b) (strip n 1 b′) × NotLater n (strip n 2 b′) (strip n 2 b)
   -- d falls only by reading a place that was not settled, and so does ambiguous become unique
