@@ -12,6 +12,7 @@ pub mod layout;
 pub mod limits;
 pub mod lot;
 pub mod make;
+pub mod more;
 pub mod obvious;
 pub mod open;
 pub mod pace;

@@ -6,11 +6,14 @@ use second::calls;
 use second::files::{self, first_difference, shown, File};
 use second::limits;
 use second::lot;
+use second::make::every_word;
+use second::more;
 use second::pace::Pace;
 use second::programs;
 use second::protocol::{write_answer, Request};
 use second::requests::{self, Code};
 use second::rng::Rng;
+use second::sheet::Sheet;
 use second::show::{self, Options};
 use second::words::Codewords;
 use std::collections::BTreeMap;
@@ -37,6 +40,10 @@ const USAGE: &str = "usage:
                                 it is lost; the answer records go to the file RECORDS
   second strips DIR MARKS COUNT SEED
                                 write so many strips of DIR/sheet.bin and DIR/choice.bin, end to end
+  second every n                write every word of 2 to the n symbols, n up to 3
+  second more DIR..             hold DIR/records.bin, the answers to every such word by DIR/sheet.bin and
+                                DIR/choice.bin, to W-212: more read, never less known. The folders have
+                                one sheet and check length, and ceilings that rise
   second sheet n r SEED         write a good sheet of 2 to the n positions, drawn for check length r
   second lots EXAMPLES          write the sample lots, an old sheet and strips, each in its folder
   second compare-lots EXAMPLES  make them again and compare
@@ -289,6 +296,52 @@ fn strips(dir: &Path, marks: &str, count: &str, seed: &str) -> io::Result<()> {
     draw(count, seed, |rng| codewords.damaged_strip(rng, &lost))
 }
 
+/// The largest n of which every word is written.
+const LARGEST_EVERY: usize = 3;
+
+/// Writes every word of 2 to the n symbols.
+fn every(n: &str) -> io::Result<()> {
+    let n: usize = n.parse().map_err(io::Error::other)?;
+    if n > LARGEST_EVERY {
+        return Err(io::Error::other("too many words"));
+    }
+    io::stdout().write_all(&every_word(1 << n, 3).concat())
+}
+
+/// Holds the answers to every word, under ceilings that rise, to what more reading may change.
+fn more(dirs: &[&str]) -> io::Result<Result<String, String>> {
+    let mut lots = Vec::new();
+    let mut sheets = Vec::new();
+    for dir in dirs.iter().map(Path::new) {
+        let sheet = std::fs::read(dir.join("sheet.bin"))?;
+        let choice = std::fs::read(dir.join("choice.bin"))?;
+        let (n, r, ceiling) = calls::stream_numbers(&sheet, &choice).map_err(refused)?;
+        if n > LARGEST_EVERY {
+            return Err(io::Error::other("too many words"));
+        }
+        let read = Sheet::read(n, &sheet, r).map_err(|answer| refused(answer.code))?;
+        let records = std::fs::read(dir.join("records.bin"))?;
+        let answers = more::every_told(1 << n, &records).map_err(io::Error::other)?;
+        lots.push((ceiling, answers));
+        sheets.push((read, r));
+    }
+    let (sheet, r) = &sheets[0];
+    if sheets.iter().any(|other| other != &sheets[0]) {
+        return Err(io::Error::other("the sheets or check lengths differ"));
+    }
+    Ok(match more::hold(sheet.k(), *r, &lots) {
+        Ok(ways) => {
+            let count = ways.values().sum();
+            let ways: Vec<String> = (ways.iter())
+                .map(|((a, b), count)| format!("{a} to {b}: {}", grouped(*count)))
+                .collect();
+            let count = grouped(count);
+            Ok(format!("second: {count} pairs: {}\n", ways.join(", ")))
+        }
+        Err(difference) => Err(format!("second: {difference}\n")),
+    })
+}
+
 /// Writes a good sheet whose free positions are those of the most ones, half of all but for the check.
 fn sheet(n: &str, r: &str, seed: &str) -> io::Result<()> {
     let number = |text: &str| text.parse::<usize>().map_err(io::Error::other);
@@ -361,6 +414,8 @@ fn run(arguments: &[&str]) -> io::Result<ExitCode> {
         ["words", dir, count, seed] => words(Path::new(dir), count, seed)?,
         ["repair", dir, marks, records] => repair(Path::new(dir), marks, records)?,
         ["strips", dir, marks, count, seed] => strips(Path::new(dir), marks, count, seed)?,
+        ["every", n] => every(n)?,
+        ["more", dirs @ ..] if !dirs.is_empty() => return Ok(outcome(more(dirs)?)),
         ["sheet", n, r, seed] => sheet(n, r, seed)?,
         ["lots", dir] => print!("{}", write_files(Path::new(dir), &lot::files())?),
         ["compare-lots", dir] => return Ok(outcome(compare_files(Path::new(dir), &lot::files()))),

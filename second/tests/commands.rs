@@ -1,5 +1,5 @@
-// The commands as they are run: stream, show, lines, sheet, words, repair, strips, pace, and the
-// comparisons.
+// The commands as they are run: stream, show, lines, sheet, words, repair, strips, every, more, pace,
+// and the comparisons.
 
 mod common;
 use common::{folder, lone, record, sheet_e, symbols};
@@ -370,4 +370,54 @@ fn a_wrong_or_missing_file_fails_the_comparison() {
             std::fs::write(dir.join(file), right).unwrap();
         }
     }
+}
+
+#[test]
+fn every_word_and_what_more_reading_changes() {
+    let words = written(&["every", "2"], &[]);
+    assert_eq!(words.len(), 81 * 4);
+    assert_eq!(words[4 * 5..4 * 6], symbols("2100"));
+    assert!(!run(&["every", "4"], &[]).status.success());
+    let sheet = written(&["sheet", "2", "0", "1"], &[]);
+    let lot = |name: &str, ceiling: u8| {
+        let folder = stream_folder(name, Some(&sheet), Some(&[0, ceiling]));
+        let path = folder.to_str().unwrap().to_string();
+        let records = written(&["stream", &path], &words);
+        std::fs::write(folder.join("records.bin"), records).unwrap();
+        path
+    };
+    let (low, high) = (lot("more-low", 1), lot("more-high", 4));
+    let report = String::from_utf8(written(&["more", &low, &high], &[])).unwrap();
+    assert!(
+        report.starts_with("second: 1,250 pairs: 0 to 0: "),
+        "{report}"
+    );
+    let fails = |arguments: &[&str], said: &str| {
+        let output = run(arguments, &[]);
+        let text = String::from_utf8(output.stderr).unwrap();
+        assert!(
+            output.status.code() == Some(1) && text.contains(said),
+            "{text}"
+        );
+    };
+    fails(&["more", &high, &low], "the ceilings do not rise");
+    assert_eq!(run(&["more"], &[]).status.code(), Some(2));
+    // one number, one byte of a strip, a record too few, another sheet
+    let file = Path::new(&high).join("records.bin");
+    let right = std::fs::read(&file).unwrap();
+    let unique = (right.chunks(calls::ANSWER_BYTES)).position(|record| record[0] == 0);
+    let start = calls::ANSWER_BYTES * unique.unwrap();
+    for (at, said) in [(4, "not so: "), (16, "not so: "), (20, "behind its strips")] {
+        let mut wrong = right.clone();
+        wrong[start + at] ^= 1;
+        std::fs::write(&file, wrong).unwrap();
+        fails(&["more", &high], said);
+    }
+    std::fs::write(&file, &right[calls::ANSWER_BYTES..]).unwrap();
+    fails(&["more", &high], "81 records are wanted");
+    std::fs::write(&file, &right).unwrap();
+    let other = written(&["sheet", "2", "0", "2"], &[]);
+    assert_ne!(sheet, other);
+    std::fs::write(Path::new(&high).join("sheet.bin"), other).unwrap();
+    fails(&["more", &low, &high], "the sheets or check lengths differ");
 }
