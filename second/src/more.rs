@@ -92,6 +92,9 @@ impl Told {
         if b.g > a.g {
             return Some("g does not grow");
         }
+        if a.g > b.g + filled {
+            return Some("each symbol lowers g by one at most");
+        }
         if a.code != 18 && (b.m < a.m || b.m + a.g != a.m + b.g + filled) {
             return Some("m does not fall, and m - g rises by what was filled in");
         }
@@ -125,9 +128,14 @@ impl Told {
         if u_of(&after[1]) < u_of(&before[1]) || u_of(&after[2]) > u_of(&before[2]) {
             return Some("first and last do not move apart");
         }
-        let opened = (places.filter(fetched)).any(|j| !settled(&j));
+        let opened = (places.clone().filter(fetched)).any(|j| !settled(&j));
         let lower = b.d < a.d || (a.code, b.code) == (1, 0);
-        (lower && !opened).then_some("d falls by reading a place that was not settled")
+        if lower && !opened {
+            return Some("d falls by reading a place that was not settled");
+        }
+        (places.filter(fetched).filter(settled))
+            .any(|j| more.word[j] != before[0][j])
+            .then_some("a settled place that is read otherwise makes the word inconsistent")
     }
 
     /// The sentence that the answers to one word under two ceilings break, this one's the lower.

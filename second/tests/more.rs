@@ -166,7 +166,7 @@ fn wrong_decoders_are_caught() {
     let lost = |told: &Told| told.word.iter().filter(|&&s| s == ERASED).count() as u16;
     let ambiguous = |told: &Told| told.answer.code == 1;
     type Wrong<'a> = (&'a str, Box<dyn Fn(&mut Told) + 'a>);
-    let wrong: [Wrong; 11] = [
+    let wrong: [Wrong; 12] = [
         (
             "unique stays the same codeword or becomes inconsistent",
             // the first codeword is taken for the content
@@ -198,6 +198,10 @@ fn wrong_decoders_are_caught() {
         (
             "g does not grow",
             Box::new(move |told| told.answer.g += u16::from(lost(told) == 0)),
+        ),
+        (
+            "each symbol lowers g by one at most",
+            Box::new(|told| told.answer.g *= 2),
         ),
         (
             "m does not fall, and m - g rises by what was filled in",
@@ -274,14 +278,21 @@ fn wrong_decoders_are_caught() {
     let &(a, b) = (pairs.iter())
         .find(|&&(a, b)| contrary(&right[a], &right[b]).is_some())
         .unwrap();
-    let mut second = right[b].clone();
+    let (first, mut second) = (&right[a], right[b].clone());
     assert_eq!(second.answer.code, 2);
     second.answer.code = 0;
-    let first = &right[a].strips.as_ref().unwrap()[1];
-    second.strips = Some([0, 1, 2].map(|_| first.clone()));
+    let content = &first.strips.as_ref().unwrap()[1];
+    second.strips = Some([0, 1, 2].map(|_| content.clone()));
     assert_eq!(
-        right[a].broken(&second),
+        first.broken(&second),
         Some("d falls by reading a place that was not settled")
+    );
+    // or it is not looked at
+    (second.answer.code, second.answer.d) = (1, first.answer.d);
+    second.strips = first.strips.clone();
+    assert_eq!(
+        first.broken(&second),
+        Some("a settled place that is read otherwise makes the word inconsistent")
     );
     // m without r, or with the open positions in it
     let mut answer = right[0].clone();

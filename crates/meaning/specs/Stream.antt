@@ -3,7 +3,6 @@
 --     header a             the bytes of an answer record before its strips
 --     answerRecord         the record of one word
 --     numberAt r i         the number in the bytes i and i + 1 of a record
---     numbersIn, stripsIn  the five numbers of a record, and its three strips without what fills them up
 --     sizeOf s             the n of a sheet, from its length; sizeIn L s, in any layout
 --     roundedUp, pieceAt, pieceEnd     an input cut into pieces of L bytes: how many, piece k, and where it ends; wordAt, the words
 --     records              all records that an input gets
@@ -46,17 +45,9 @@ answerRecord n s r c w =
     let b = a .bytes in
     header (a .answer) ++ padded (take (2 ^ n) b) ++ padded (take (2 ^ n) (drop (2 ^ n) b)) ++ padded (drop (2 * 2 ^ n) b)
 
--- ---- read off a record
-
--- low first
+-- a number read off a record, low first
 abbrev pub numberAt : List ℕ → ℕ → ℕ
 numberAt r i = getD r i 0 + 256 * getD r (i + 1) 0
-
-unfoldable pub numbersIn : List ℕ → List ℕ
-numbersIn r = tab 5 (λ (i : ℕ). numberAt r (2 * i))
-
-unfoldable pub stripsIn : ℕ → List ℕ → List ℕ
-stripsIn n r = flatten (tab 3 (λ (i : ℕ). take (2 ^ n) (drop (headBytes + i * stripWidth) r)))
 
 -- the one record of an input whose sheet or choice has a wrong length
 unfoldable pub refusedRecord : Answer → List ℕ

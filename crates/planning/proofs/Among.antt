@@ -4,6 +4,7 @@
 --     settled-kept      a place that is settled for w keeps its value, as long as a codeword agrees with w′
 --     narrowed          the first of them is that of w or comes after it, the last is that of w or comes before it
 --     fewer-by-fetching     where they are fewer and not none, a place that was not settled for w has been filled in
+--     as-settled        a settled place is filled in as it was settled, or none agrees
 --     all-left          where only settled places were filled in, as they were settled, all are left
 use mathlib.Core.Path.{_≡_, refl, sym, ap, _∙_}
 use mathlib.Core.Logic.{_⊎_, inl, inr, ⊎-elim}
@@ -86,6 +87,25 @@ settled-in l j {x} m v h e = go (all (λ (x : List Bool). getD x j false) l) (al
     go false true p q k = rw k (all-mem (λ (x : List Bool). not (getD x j false)) m q)
     go false false p q k = absurd (omega arith)
 
+-- a value that fits one of them is that of a settled place
+fitting : (l : List (List Bool)) (j v : ℕ) → v < 2 → (settledAt l j ≡ 2 → ⊥) → {x : List Bool} → List·Memᴰ x l → fits v (getD x j false) ≡ true → v ≡ settledAt l j
+fitting l j v h u {x} m e = go (all (λ (x : List Bool). getD x j false) l) (all (λ (x : List Bool). not (getD x j false)) l) refl refl u
+  where
+    one : (v : ℕ) → v < 2 → getD x j false ≡ true → fits v (getD x j false) ≡ true → v ≡ 1
+    one zero h p e = absurd (false≢true (ap not (sym p) ∙ e))
+    one (suc zero) h p e = refl
+    one (suc (suc v)) h p e = absurd (omega arith)
+
+    none : (v : ℕ) → v < 2 → getD x j false ≡ false → fits v (getD x j false) ≡ true → v ≡ 0
+    none zero h p e = refl
+    none (suc zero) h p e = absurd (false≢true (sym p ∙ e))
+    none (suc (suc v)) h p e = absurd (omega arith)
+
+    go : (a b : Bool) → all (λ (x : List Bool). getD x j false) l ≡ a → all (λ (x : List Bool). not (getD x j false)) l ≡ b → (common a b ≡ 2 → ⊥) → v ≡ common a b
+    go true b p q k = one v h (all-mem (λ (x : List Bool). getD x j false) m p) e
+    go false true p q k = none v h (not-true _ (all-mem (λ (x : List Bool). not (getD x j false)) m q)) e
+    go false false p q k = absurd (k refl)
+
 -- ---- the candidates
 
 module _ (n : ℕ) (ks : List Rule) (r : ℕ) (w w′ : List ℕ) (f : filledIn w w′ ≡ true) where
@@ -130,6 +150,13 @@ module _ (n : ℕ) (ks : List Rule) (r : ℕ) (w w′ : List ℕ) (f : filledIn 
             let mz′ : List·Memᴰ z cs = sub-mem among mz in
             let cz : fits (getD w′ j 0) (getD z j false) ≡ true = agrees-at w′ z (candidate-iff n ks r w′ z .0 mz .1) j (omega (arith, filled-long w w′ f)) (omega (arith, long z mz′)) in
             (j, omega arith, p, q, apart cs j (getD w′ j 0) q mx mz′ cx cz)
+
+    -- what was read at a settled place is its value, or none agrees
+    pub as-settled : (j : ℕ) → j < 2 ^ n → (settledAt cs j ≡ 2 → ⊥) → getD w′ j 0 < 2 → 0 < length cs′ → getD w′ j 0 ≡ settledAt cs j
+    as-settled j k u h p =
+        let (z, mz) = head-in cs′ p in
+        let mz′ : List·Memᴰ z cs = sub-mem among mz in
+        fitting cs j (getD w′ j 0) h u mz′ (agrees-at w′ z (candidate-iff n ks r w′ z .0 mz .1) j (omega (arith, filled-long w w′ f)) (omega (arith, long z mz′)))
 
     pub all-left : ((j : ℕ) → j < 2 ^ n → getD w j 0 ≡ 2 → getD w′ j 0 < 2 → getD w′ j 0 ≡ settledAt cs j) → cs′ ≡ cs
     all-left h = all-agree (λ x m. go x m (agrees w′ x) refl)

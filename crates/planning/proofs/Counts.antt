@@ -4,6 +4,7 @@
 --     more-equations      m is no smaller
 --     balance             of any word, m and the number of erased symbols are N - K + r + g
 --     counts-moved        so m - g rises by as many as were filled in
+--     unknowns-each       and g falls by no more
 use mathlib.Core.Path.{_≡_, refl, sym, ap, _∙_}
 use Prim.Native.Nat.{ℕ, zero, suc, _+_, _^_, _≤_}
 use native.Mathlib.Omega.{arith}
@@ -103,3 +104,6 @@ module _ (n : ℕ) (ks : List Rule) where
 
     pub counts-moved : (r : ℕ) → length ks ≡ 2 ^ n → length w ≡ 2 ^ n → equations n ks r w′ + unknowns n ks w ≡ equations n ks r w + unknowns n ks w′ + fetched w w′
     counts-moved r lk lw = omega (arith, balance r w lk lw, balance r w′ lk (sym (filled-long w w′ f) ∙ lw), erased-fetched w w′ f)
+
+    pub unknowns-each : length ks ≡ 2 ^ n → length w ≡ 2 ^ n → unknowns n ks w ≤ unknowns n ks w′ + fetched w w′
+    unknowns-each lk lw = omega (arith, counts-moved 0 lk lw, more-equations 0)

@@ -32,9 +32,9 @@ use Rattle.meaning.proofs.Dimension.{dimension-is}
 use Rattle.meaning.proofs.Demands.{at, codeBy, dBy, verdict-numbers, verdict-shown, verdict-settled, code-one, code-none, code-more, code-small, code-not-18, over, under}
 use Rattle.planning.specs.Filled.{filledIn, fetched}
 use Rattle.planning.specs.MoreKnown.{codeOf, gOf, mOf, dOf, formed, strip, NotLater, OpenFetched, MoreKnown}
-use Rattle.planning.proofs.Among.{sub-length, among, fewer, settled-kept, narrowed, fewer-by-fetching, all-left}
+use Rattle.planning.proofs.Among.{sub-length, among, fewer, settled-kept, narrowed, fewer-by-fetching, as-settled, all-left}
 use Rattle.planning.proofs.Halving.{halved-all}
-use Rattle.planning.proofs.Counts.{balance, fewer-unknowns, more-equations, counts-moved}
+use Rattle.planning.proofs.Counts.{balance, fewer-unknowns, more-equations, counts-moved, unknowns-each}
 
 abbrev pub numbers : Reply → List ℕ
 numbers t = numbersOf (t .answer)
@@ -228,12 +228,13 @@ module _ (n : ℕ) (ks : List Rule) (r : ℕ) (w w′ : List ℕ) (f : filledIn 
       record {
         stays-under = λ h p. code-not-18 (length cs₂) (sym (at 0 a₂) ∙ p);
         unknowns = rw (at 2 a₁, at 2 a₂) (fewer-unknowns n ks w w′ f);
+        unknowns-each = rw (at 2 a₁, at 2 a₂) (unknowns-each n ks w w′ f lk lw);
         equations = λ h. (rw (at 3 a₁, at 3 a₂) (more-equations n ks w w′ f r), rw (at 3 a₂, at 2 a₁, at 3 a₁, at 2 a₂) (counts-moved n ks w w′ f r lk lw));
         stays-inconsistent = λ p.
             let e : length cs₂ ≡ 0 = omega (arith, code-none (length cs₁) (sym (at 0 a₁) ∙ p)) in
             at 0 a₂ ∙ ap codeBy e;
         dimension = λ p q. rw (at 4 a₁, at 4 a₂) (omega (arith, d-within n ks r w′ w 0 (some₂ q) (some₁ p) (omega arith)));
-        one-each = λ p q. rw (at 4 a₁, at 4 a₂) (d-within n ks r w w′ (fetched w w′) (some₁ p) (some₂ q) (halved-all n ks r w w′ f lw (some₂ q)));
+        dimension-each = λ p q. rw (at 4 a₁, at 4 a₂) (d-within n ks r w w′ (fetched w w′) (some₁ p) (some₂ q) (halved-all n ks r w w′ f lw (some₂ q)));
         stays-settled = λ p q j l h.
             let z₁ = settled-told n ks r w g₁ m₁ out (some₁ p) j l in
             let z₂ = settled-told n ks r w′ g₂ m₂ out′ (some₂ q) j l in
@@ -251,6 +252,12 @@ module _ (n : ℕ) (ks : List Rule) (r : ℕ) (w w′ : List ℕ) (f : filledIn 
         unique-by-fetching = λ p q.
             let one : length cs₂ ≡ 1 = code-one (length cs₂) (sym (at 0 a₂) ∙ q) in
             open-fetched (omega arith) (omega (arith, one, code-more (length cs₁) (sym (at 0 a₁) ∙ p) .0));
+        contradicted = λ p j l h k u.
+            let z = settled-told n ks r w g₁ m₁ out (some₁ p) j l in
+            ⊎-elim
+            (λ (q : length cs₂ ≤ 0). at 0 a₂ ∙ ap codeBy (let e : length cs₂ ≡ 0 = omega arith in e))
+            (λ q. absurd (u (as-settled n ks r w w′ f lw j l (λ e. h (z ∙ e)) k q ∙ sym z)))
+            (le-or-lt (length cs₂) 0);
         nothing-new = λ p h.
             let k = some₁ p in
             same-told (all-left n ks r w w′ f lw (λ j l u v. h j l u v ∙ settled-told n ks r w g₁ m₁ out k j l)) k;
@@ -278,14 +285,16 @@ module _ (n : ℕ) (s : List ℕ) (r c : ℕ) (w w′ : List ℕ) (f : filledIn 
     over-told = record {
       stays-under = λ h. absurd (h refl);
       unknowns = rw (g-answered n s r c w′ out′ ok′) (fewer-unknowns n (rules n s) w w′ f);
+      unknowns-each = rw (g-answered n s r c w′ out′ ok′) (unknowns-each n (rules n s) w w′ f (length-rules n s) (word-long n s r c w out ok));
       equations = λ h. absurd (h refl);
       stays-inconsistent = λ p. absurd (omega arith);
       dimension = λ p. absurd (omega arith);
-      one-each = λ p. absurd (omega arith);
+      dimension-each = λ p. absurd (omega arith);
       stays-settled = λ p. absurd (omega arith);
       narrows = λ p. absurd (omega arith);
       lower-by-fetching = λ p. absurd (omega arith);
       unique-by-fetching = λ p. absurd (omega arith);
+      contradicted = λ p. absurd (omega arith);
       nothing-new = λ p. absurd (omega arith);
       stays-unique = λ p. absurd (omega arith);
     }

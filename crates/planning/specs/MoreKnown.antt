@@ -46,22 +46,25 @@ abbrev pub OpenFetched : ℕ → List ℕ → List ℕ → List ℕ → Type 0
 OpenFetched n w w′ b = (j : ℕ) × (j < 2 ^ n) × (getD w j 0 ≡ 2) × (getD w′ j 0 < 2) × (getD b j 0 ≡ 2)
 
 pub record MoreKnown (n : ℕ) (w w′ v b v′ b′ : List ℕ) : Type 0 where
-  -- under the ceiling stays under it, with g no larger
+  -- under the ceiling stays under it, with g no larger; each symbol lowers g by one at most
   pub stays-under : (codeOf v ≡ 18 → ⊥) → codeOf v′ ≡ 18 → ⊥
   pub unknowns : gOf v′ ≤ gOf v
+  pub unknowns-each : gOf v ≤ gOf v′ + fetched w w′
   -- m does not fall, and m - g rises by as many as were filled in
   pub equations : (codeOf v ≡ 18 → ⊥) → (mOf v ≤ mOf v′) × (mOf v′ + gOf v ≡ mOf v + gOf v′ + fetched w w′)
   -- inconsistent stays inconsistent
   pub stays-inconsistent : codeOf v ≡ 2 → codeOf v′ ≡ 2
   -- if neither is refused or inconsistent, d does not grow, and each symbol lowers it by one at most
   pub dimension : codeOf v ≤ 1 → codeOf v′ ≤ 1 → dOf v′ ≤ dOf v
-  pub one-each : codeOf v ≤ 1 → codeOf v′ ≤ 1 → dOf v ≤ dOf v′ + fetched w w′
+  pub dimension-each : codeOf v ≤ 1 → codeOf v′ ≤ 1 → dOf v ≤ dOf v′ + fetched w w′
   -- every settled place keeps its value, and first and last stay or move towards each other
   pub stays-settled : codeOf v ≤ 1 → codeOf v′ ≤ 1 → (j : ℕ) → j < 2 ^ n → (getD b j 0 ≡ 2 → ⊥) → getD b′ j 0 ≡ getD b j 0
   pub narrows : codeOf v ≤ 1 → codeOf v′ ≤ 1 → NotLater n (strip n 1 b) (strip n 1 b′) × NotLater n (strip n 2 b′) (strip n 2 b)
   -- d falls only by reading a place that was not settled, and so does ambiguous become unique
   pub lower-by-fetching : codeOf v ≤ 1 → codeOf v′ ≤ 1 → dOf v′ < dOf v → OpenFetched n w w′ b
   pub unique-by-fetching : codeOf v ≡ 1 → codeOf v′ ≡ 0 → OpenFetched n w w′ b
+  -- a settled place that is read otherwise makes the word inconsistent
+  pub contradicted : codeOf v ≤ 1 → (j : ℕ) → j < 2 ^ n → (getD b j 0 ≡ 2 → ⊥) → getD w′ j 0 < 2 → (getD w′ j 0 ≡ getD b j 0 → ⊥) → codeOf v′ ≡ 2
   -- settled places that are read as they were settled change neither code, d nor strips
   pub nothing-new : codeOf v ≤ 1 → ((j : ℕ) → j < 2 ^ n → getD w j 0 ≡ 2 → getD w′ j 0 < 2 → getD w′ j 0 ≡ getD b j 0)
       → (codeOf v′ ≡ codeOf v) × (dOf v′ ≡ dOf v) × (take (3 * 2 ^ n) b′ ≡ take (3 * 2 ^ n) b)

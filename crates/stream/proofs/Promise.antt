@@ -32,7 +32,7 @@ use Rattle.meaning.specs.Limits.{largestN, largestCeiling}
 use Rattle.meaning.specs.Sheet.{rules}
 use Rattle.meaning.specs.Open.{unknowns}
 use Rattle.meaning.specs.Answers.{numbersOf, Reply, isDone, leaving, writing, decoding}
-use Rattle.meaning.specs.Stream.{header, answerBytes, padded, answerRecord, refusedRecord, numbersIn, stripsIn, sizeOf, roundedUp, wordAt, records, streaming}
+use Rattle.meaning.specs.Stream.{header, answerBytes, padded, answerRecord, refusedRecord, sizeOf, roundedUp, wordAt, records, streaming}
 use Rattle.meaning.specs.declared.Answer.{Answer}
 use Rattle.meaning.specs.declared.Answer.the-variants.{Done, ShortOutput, TooMany}
 use Rattle.meaning.proofs.Determined.{reply-determined}
@@ -41,6 +41,7 @@ use Rattle.planning.specs.Filled.{filledIn}
 use Rattle.planning.specs.MoreKnown.{codeOf, formed, MoreKnown}
 use Rattle.planning.proofs.Known.{more-known}
 use Rattle.planning.proofs.Ceiling.{lowered, raised}
+use Rattle.stream.specs.ReadOff.{numbersIn, stripsIn}
 use Rattle.stream.proofs.ReadOff.{numbers-off, strips-off}
 use Rattle.stream.proofs.Untouched.{untouched-record}
 use Rattle.stream.proofs.Counting.{records-words}

@@ -1,2 +1,3 @@
--- Laying: a record, in the parts that the code writes.
+-- Laying: a record, in the parts that the code writes. ReadOff: a record read back.
 pub mod Laying
+pub mod ReadOff
