@@ -16,7 +16,7 @@ use Rattle.meaning.specs.Limits.{largestCeiling}
 use Rattle.meaning.specs.Sheet.{rules}
 use Rattle.meaning.specs.Codewords.{candidates}
 use Rattle.meaning.specs.Open.{unknowns, equations}
-use Rattle.meaning.specs.Answers.{Refusal, numbersOf, firstOf, refuses, formRefusals, Reply, leaving, verdict, decoding}
+use Rattle.meaning.specs.Answers.{Refusal, firstOf, refuses, formRefusals, Reply, leaving, verdict, decoding}
 use Rattle.meaning.specs.declared.Answer.the-variants.{TooMany}
 use Rattle.meaning.proofs.Refusals.{first-refused}
 use Rattle.meaning.proofs.Demands.{over, under, over-iff}

@@ -5,10 +5,10 @@
 --     balance             of any word, m and the number of erased symbols are N - K + r + g
 --     counts-moved        so m - g rises by as many as were filled in
 --     unknowns-each       and g falls by no more
-use mathlib.Core.Path.{_≡_, refl, sym, ap, _∙_}
+use mathlib.Core.Path.{_≡_, refl, sym, _∙_}
 use Prim.Native.Nat.{ℕ, zero, suc, _+_, _^_, _≤_}
 use native.Mathlib.Omega.{arith}
-use mathlib.Core.Bool.{Bool, true, false, _&&_, _||_, not, false≢true}
+use mathlib.Core.Bool.{Bool, true, false, _&&_, _||_, not}
 use mathlib.Core.List.{List, [], _∷_, map}
 use lib.ListN.{length, getD, take}
 use Rattle.bits.specs.Vectors.{bit, tab, ones, zeros}

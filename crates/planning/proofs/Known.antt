@@ -8,7 +8,6 @@ use mathlib.Core.Path.{_≡_, refl, sym, ap, ap₂, _∙_}
 use mathlib.Core.Logic.{_⊎_, inl, inr, ⊎-elim}
 use Prim.Native.Nat.{ℕ, zero, suc, _+_, _*_, _^_, _≤_, _<_}
 use native.Mathlib.Omega.{arith}
-use native.Mathlib.Decide.{decLt}
 use mathlib.Core.Bool.{Bool, true, false, not, true≢false}
 use mathlib.Core.List.{List, [], _∷_, _++_, map, Sublistᴰ, Sublistᴰ·slnil, Sublistᴰ·cons, Sublistᴰ·cons-cons}
 use lib.ListN.{length, take, drop, getD}
@@ -24,14 +23,14 @@ use Rattle.meaning.specs.Strips.{settledAt, first, last, strips, dimension, log
 use Rattle.meaning.specs.Answers.{numbersOf, firstOf, refuses, sheetRefusals, wordRefusals, formRefusals, decodeRefusals, Reply, leaving, verdict, decoding}
 use Rattle.meaning.specs.declared.Answer.{Answer}
 use Rattle.meaning.specs.declared.Answer.the-variants.{TooMany}
-use Rattle.meaning.proofs.Refusals.{first-append, first-refused, refused-is, none-append}
+use Rattle.meaning.proofs.Refusals.{first-append, refused-is, none-append}
 use Rattle.meaning.proofs.Forms.{worded}
 use Rattle.meaning.proofs.Sound.{length-rules}
 use Rattle.meaning.proofs.Strips.{candidate-long, strips-whole, strips-first, strips-last}
 use Rattle.meaning.proofs.Dimension.{dimension-is}
 use Rattle.meaning.proofs.Demands.{at, codeBy, dBy, verdict-numbers, verdict-shown, verdict-settled, code-one, code-none, code-more, code-small, code-not-18, over, under}
 use Rattle.planning.specs.Filled.{filledIn, fetched}
-use Rattle.planning.specs.MoreKnown.{codeOf, gOf, mOf, dOf, formed, strip, NotLater, OpenFetched, MoreKnown}
+use Rattle.planning.specs.MoreKnown.{codeOf, gOf, mOf, dOf, formed, strip, OpenFetched, MoreKnown}
 use Rattle.planning.proofs.Among.{sub-length, among, fewer, settled-kept, narrowed, fewer-by-fetching, as-settled, all-left}
 use Rattle.planning.proofs.Halving.{halved-all}
 use Rattle.planning.proofs.Counts.{balance, fewer-unknowns, more-equations, counts-moved, unknowns-each}

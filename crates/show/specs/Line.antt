@@ -9,9 +9,9 @@
 --     saidOf           what a record says: a verdict, a refusal, or noAnswer
 --     lineOf r         its line
 --     longestLine      the bytes of the longest line
-use Prim.Native.Nat.{ℕ, _+_, _*_}
+use Prim.Native.Nat.{ℕ, _+_}
 use mathlib.Core.List.{List, [], _∷_, _++_}
-use lib.ListN.{length, getD}
+use lib.ListN.{length}
 use lib.Dec.{eqb}
 use Rattle.bits.specs.Vectors.{pick}
 pub use Rattle.meaning.specs.Stream.{numberAt}

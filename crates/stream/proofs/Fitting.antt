@@ -7,7 +7,7 @@ use mathlib.Core.Logic.{_⊎_, inl, inr}
 use Prim.Native.Nat.{ℕ, _+_, _-_, _*_, _^_, _≤_, _<_}
 use native.Mathlib.Omega.{arith}
 use mathlib.Core.Bool.{Bool, true, false}
-use mathlib.Core.List.{List, [], _∷_, _++_, map, List·Memᴰ}
+use mathlib.Core.List.{List, [], _∷_, _++_, List·Memᴰ}
 use lib.ListN.{length, length-append, length-drop}
 use lib.Dec.{ltb}
 use lib.Pow.{pow-mono}
@@ -17,7 +17,7 @@ use Rattle.meaning.specs.Limits.{largestN}
 use Rattle.meaning.specs.Sheet.{Rule, free, frozen, rules, badRecord}
 use Rattle.meaning.specs.Codewords.{candidates}
 use Rattle.meaning.specs.Open.{openFree, closedFrozen, openAll, unknowns, equations}
-use Rattle.meaning.specs.Strips.{strips, dimension}
+use Rattle.meaning.specs.Strips.{dimension}
 use Rattle.meaning.specs.Answers.{Refusal, firstOf, refuses, Reply, leaving, sheetRefusals, wordRefusals, formRefusals, decodeRefusals, verdict, decoding}
 use Rattle.meaning.proofs.Sound.{length-rules}
 use Rattle.meaning.proofs.Strips.{candidate-long, strips-long}
