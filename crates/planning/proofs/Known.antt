@@ -1,7 +1,7 @@
 -- More read, never less known, of `decoding`: the word w′ is w with some erased symbols filled in.
---     formed-none, none-formed     an answer is not refused for any reason but 18 exactly where no fault of form is found
---     by-form         the table of form is tried first
---     g-answered      and its g is the number of unknowns, in 18 too
+--     by-form         the table of form is tried first, then 18, then the verdict
+--     formed-none, none-formed     an answer is a refusal for no reason but 18, or none, exactly where no fault of form is found
+--     g-answered      the g of such an answer is the number of unknowns, in 18 too
 --     balanced        under the ceiling its g and m are bound to the number of erased symbols
 --     more-known      what the second reply keeps of the first, and what it gains, whatever their buffers
 use mathlib.Core.Path.{_≡_, refl, sym, ap, ap₂, _∙_}
