@@ -3,16 +3,16 @@
 --     too-many         more unknowns than the ceiling allows
 --     settling         else the last step can be made
 --     decided          and gives the verdict
-use mathlib.Core.Path.{_≡_, refl, sym, ap, ap₂, _∙_}
+use mathlib.Core.Path.{_≡_, sym, ap, ap₂, _∙_}
 use Prim.Native.Nat.{ℕ, _+_, _*_, _/_, _^_, _≤_, _<_}
 use native.Mathlib.Nat.{mul-le-mul-right}
 use native.Mathlib.Omega.{arith}
 use mathlib.Core.Bool.{Bool, true, false}
-use mathlib.Core.List.{List, [], _∷_, _++_}
+use mathlib.Core.List.{List, _++_}
 use lib.ListN.{length}
 use lib.Dec.{ltb}
 use borrow.Author.Tests.{eq-eqb, le-leb, lt-ltb, le-ltb}
-use Rattle.bits.specs.Vectors.{pick, ones, tab}
+use Rattle.bits.specs.Vectors.{pick, tab}
 use Rattle.bits.specs.Rows.{Row}
 use Rattle.bits.specs.Rows as bits
 use Rattle.bits.proofs.Tests.{and-i}
@@ -21,12 +21,14 @@ use Rattle.gf2.specs.Solve.{solve}
 use Rattle.gf2.proofs.Rows.{has-⊻}
 use Rattle.gf2.proofs.Solutions.{rank-le}
 use Rattle.meaning.specs.Limits.{largestN, recordBytes}
-use Rattle.meaning.specs.Sheet.{Rule, free, frozen, ruleAt, rules, frees}
+use Rattle.meaning.specs.Sheet.{ruleAt, rules}
 use Rattle.meaning.specs.Codewords.{candidates}
-use Rattle.meaning.specs.Open.{openAll, closedFrozen, unknowns, equations}
+use Rattle.meaning.specs.Open.{unknowns, equations}
 use Rattle.meaning.specs.Answers.{Reply, leaving, verdict}
 use Rattle.meaning.specs.declared.Answer.the-variants.{TooMany}
 use Rattle.meaning.proofs.Sound.{length-rules}
+use Rattle.meaning.proofs.Gap.{g-le-erased}
+use Rattle.planning.proofs.Counts.{balance}
 use Rattle.model.specs.Model.{checks, run, system}
 use Rattle.ruling.specs.Values.{rowValues}
 use Rattle.counting.specs.Counting.{shaped}
@@ -40,19 +42,6 @@ use Rattle.verdict.proofs.Reading.{reading}
 use Rattle.decoder.specs.Deciding.{deciding, systemRows, Formed, Settling}
 use Rattle.reading.proofs.Cutting.{rows-agree}
 use Rattle.decoder.proofs.Systems.{many-rows}
-
-closed-none : (ks : List Rule) → ones (closedFrozen ks []) ≡ 0
-closed-none [] = refl
-closed-none (k ∷ ks) = refl
-
--- a position is free, or closed and frozen, or neither
-pub closed-frees : (ks : List Rule) (o : List Bool) → ones (closedFrozen ks o) + frees ks ≤ length ks
-closed-frees [] o = omega arith
-closed-frees (free ∷ ks) [] = omega (arith, closed-frees ks [], closed-none ks)
-closed-frees (frozen c m ∷ ks) [] = omega (arith, closed-frees ks [], closed-none ks)
-closed-frees (free ∷ ks) (b ∷ o) = omega (arith, closed-frees ks o)
-closed-frees (frozen c m ∷ ks) (true ∷ o) = omega (arith, closed-frees ks o)
-closed-frees (frozen c m ∷ ks) (false ∷ o) = omega (arith, closed-frees ks o)
 
 module _ (co wd n : ℕ) (s : List ℕ) (r c : ℕ) (w out vals us eqs : List ℕ) (F : Formed n s r c w out) (hw : co < wd) (nw : wd ≤ widest) (lo : c ≤ 64 * co)
     (lv : length vals ≡ 2 ^ n * wd) (lu : length us ≡ 2 ^ n * wd) (le : length eqs ≡ 2 ^ n * wd) where
@@ -106,8 +95,7 @@ module _ (co wd n : ℕ) (s : List ℕ) (r c : ℕ) (w out vals us eqs : List �
     many = ap (λ (k : ℕ). k + r) (T .many) ∙ found-equations n s w co wd (T .symbols) r
 
     few : m + r ≤ 2 ^ n
-    unfolding equations
-    few = omega (arith, many, closed-frees (rules n s) (openAll n w), F .enough, length-rules n s)
+    few = omega (arith, many, balance n (rules n s) r w (length-rules n s) (F .symbols), g-le-erased n (rules n s) w (F .symbols), F .enough)
 
     low : g ≤ 64 * co
     low = let a = T .few in omega arith

@@ -1,6 +1,7 @@
 -- The archivist's demands 2 and 3, of `decoding`, the definition that decode's promise cites.
 -- Standing premise: no fault of form, and room to answer, so that no refusal but 18 applies; the sheet has K at least 1.
 --     verdict-settled      the first strip, place by place
+--     by-form              the table of form is tried first, then 18, then the verdict
 --     over, under          over the ceiling, decoding is 18, and under it the verdict on the candidates
 --     over-iff             18 exactly when g passes the ceiling
 --     unique-iff           unique exactly when one codeword agrees
@@ -24,7 +25,7 @@ use Rattle.meaning.specs.Sheet.{Rule, rules}
 use Rattle.meaning.specs.Codewords.{erased, candidates}
 use Rattle.meaning.specs.Open.{openAll, unknowns, equations}
 use Rattle.meaning.specs.Strips.{log2, dimension, settled, settledAt, first, last, strips}
-use Rattle.meaning.specs.Answers.{numbersOf, refuses, formRefusals, decodeRefusals, Reply, leaving, verdict, decoding}
+use Rattle.meaning.specs.Answers.{numbersOf, firstOf, refuses, formRefusals, decodeRefusals, Reply, leaving, verdict, decoding}
 use Rattle.meaning.specs.declared.Answer.the-variants.{TooMany}
 use Rattle.meaning.proofs.Refusals.{first-append, first-none}
 use Rattle.meaning.proofs.Dimension.{dimension-pow, dimension-is}
@@ -97,7 +98,7 @@ code-more zero h = absurd (omega arith)
 code-more (suc zero) h = absurd (omega arith)
 code-more (suc (suc k)) h = (omega arith, refl)
 
-pub more-code : (k : ℕ) → 1 < k → (codeBy k ≡ 1) × (dBy k ≡ log2 k k)
+more-code : (k : ℕ) → 1 < k → (codeBy k ≡ 1) × (dBy k ≡ log2 k k)
 more-code zero h = absurd (omega arith)
 more-code (suc zero) h = absurd (omega arith)
 more-code (suc (suc k)) h = (refl, refl)
@@ -111,9 +112,9 @@ code-not-18 zero h = omega arith
 code-not-18 (suc zero) h = omega arith
 code-not-18 (suc (suc k)) h = omega arith
 
--- ---- a word without a fault of form
+-- ---- the steps of decoding
 
-module _ (n : ℕ) (s : List ℕ) (r c : ℕ) (w out : List ℕ) (ok : refuses (formRefusals n s r c w out) ≡ false) where
+module _ (n : ℕ) (s : List ℕ) (r c : ℕ) (w out : List ℕ) where
   abbrev ks : List Rule
   ks = rules n s
 
@@ -126,60 +127,67 @@ module _ (n : ℕ) (s : List ℕ) (r c : ℕ) (w out : List ℕ) (ok : refuses (
   abbrev cs : List (List Bool)
   cs = candidates n ks r w
 
-  -- 18, or the verdict
-  pub judged : decoding n s r c w out ≡ pick (ltb c g) (leaving out (TooMany g)) (verdict n g m cs out)
+  -- what stands after the table of form: 18, or the verdict
+  abbrev pub decided : Reply
+  decided = pick (ltb c g) (leaving out (TooMany g)) (verdict n g m cs out)
+
+  pub by-form : decoding n s r c w out ≡ firstOf (leaving out) (formRefusals n s r c w out) decided
   unfolding decoding decodeRefusals
-  judged =
-      let v : Reply = verdict n g m cs out in
-      first-append (leaving out) (formRefusals n s r c w out) _ v ∙ first-none (leaving out) (formRefusals n s r c w out) _ ok
+  by-form = first-append (leaving out) (formRefusals n s r c w out) _ (verdict n g m cs out)
 
-  pub over : c < g → decoding n s r c w out ≡ leaving out (TooMany g)
-  over h = judged ∙ rw (lt-ltb c g h)
+  -- ---- no fault of form
 
-  pub under : g ≤ c → decoding n s r c w out ≡ verdict n g m cs out
-  under h = judged ∙ rw (le-ltb c g h)
+  module _ (ok : refuses (formRefusals n s r c w out) ≡ false) where
+    judged : decoding n s r c w out ≡ decided
+    judged = by-form ∙ first-none (leaving out) (formRefusals n s r c w out) _ ok
 
-  pub numbers-under : g ≤ c → numbersOf ((decoding n s r c w out) .answer) ≡ codeBy (length cs) ∷ 0 ∷ g ∷ m ∷ dBy (length cs) ∷ []
-  numbers-under h = ap (λ (a : Reply). numbersOf (a .answer)) (under h) ∙ verdict-numbers n g m out cs
+    pub over : c < g → decoding n s r c w out ≡ leaving out (TooMany g)
+    over h = judged ∙ rw (lt-ltb c g h)
 
-  -- demand 2: refused for size exactly when its unknowns pass the ceiling
-  pub over-iff : (code (decoding n s r c w out) ≡ 18) ↔ (c < g)
-  over-iff = (λ e. go (ltb c g) refl e, λ h. ap code (over h))
-    where
-      go : (b : Bool) → ltb c g ≡ b → code (decoding n s r c w out) ≡ 18 → c < g
-      go true q e = ltb-true c g q
-      go false q e = absurd (code-not-18 (length cs) (sym (at 0 (numbers-under (ltb-false c g q))) ∙ e))
+    pub under : g ≤ c → decoding n s r c w out ≡ verdict n g m cs out
+    under h = judged ∙ rw (le-ltb c g h)
 
-  module _ (h : g ≤ c) where
-    pub unique-iff : (numbersOf ((decoding n s r c w out) .answer) ≡ 0 ∷ 0 ∷ g ∷ m ∷ 0 ∷ []) ↔ (length cs ≡ 1)
-    unique-iff = (λ e. code-one (length cs) (at 0 (sym (numbers-under h) ∙ e)), λ e. numbers-under h ∙ rw e)
+    numbers-under : g ≤ c → numbersOf ((decoding n s r c w out) .answer) ≡ codeBy (length cs) ∷ 0 ∷ g ∷ m ∷ dBy (length cs) ∷ []
+    numbers-under h = ap (λ (a : Reply). numbersOf (a .answer)) (under h) ∙ verdict-numbers n g m out cs
 
-    pub inconsistent-iff : (numbersOf ((decoding n s r c w out) .answer) ≡ 2 ∷ 0 ∷ g ∷ m ∷ 0 ∷ []) ↔ (length cs ≡ 0)
-    inconsistent-iff = (λ e. code-none (length cs) (at 0 (sym (numbers-under h) ∙ e)), λ e. numbers-under h ∙ rw e)
-
-    pub ambiguous-iff : (d : ℕ) → (numbersOf ((decoding n s r c w out) .answer) ≡ 1 ∷ 0 ∷ g ∷ m ∷ d ∷ []) ↔ ((1 ≤ d) × (length cs ≡ 2 ^ d))
-    unfolding dimension
-    ambiguous-iff d = (
-      λ e.
-          let (l, k) = code-more (length cs) (at 0 (sym (numbers-under h) ∙ e)) in
-          let p : length cs ≡ 2 ^ d = dimension-is n ks r w (omega arith) ∙ ap (λ (x : ℕ). 2 ^ x) (sym k ∙ at 4 (sym (numbers-under h) ∙ e)) in
-          (positive d p l, p),
-      λ (l, p).
-          let q = more-code (length cs) (rw p (two d l)) in
-          numbers-under h ∙ ap₂ {C = List ℕ} (λ (x y : ℕ). x ∷ 0 ∷ g ∷ m ∷ y ∷ []) (q .0) (q .1 ∙ dimension-pow cs d p),
-    )
+    -- demand 2: refused for size exactly when its unknowns pass the ceiling
+    pub over-iff : (code (decoding n s r c w out) ≡ 18) ↔ (c < g)
+    over-iff = (λ e. go (ltb c g) refl e, λ h. ap code (over h))
       where
-        positive : (d : ℕ) → length cs ≡ 2 ^ d → 1 < length cs → 1 ≤ d
-        positive zero p l = absurd (omega arith)
-        positive (suc d) p l = omega arith
+        go : (b : Bool) → ltb c g ≡ b → code (decoding n s r c w out) ≡ 18 → c < g
+        go true q e = ltb-true c g q
+        go false q e = absurd (code-not-18 (length cs) (sym (at 0 (numbers-under (ltb-false c g q))) ∙ e))
 
-        two : (d : ℕ) → 1 ≤ d → 1 < 2 ^ d
-        two zero l = absurd (omega arith)
-        two (suc d) l = omega (arith, pow-pos d)
+    module _ (h : g ≤ c) where
+      pub unique-iff : (numbersOf ((decoding n s r c w out) .answer) ≡ 0 ∷ 0 ∷ g ∷ m ∷ 0 ∷ []) ↔ (length cs ≡ 1)
+      unique-iff = (λ e. code-one (length cs) (at 0 (sym (numbers-under h) ∙ e)), λ e. numbers-under h ∙ rw e)
 
-    -- where any codeword agrees, the strips are written, and bytes past them stay
-    pub shown : 0 < length cs → (decoding n s r c w out) .bytes ≡ strips n cs ++ drop (length (strips n cs)) out
-    shown l = ap (λ (a : Reply). a .bytes) (under h) ∙ verdict-shown n g m out cs l
+      pub inconsistent-iff : (numbersOf ((decoding n s r c w out) .answer) ≡ 2 ∷ 0 ∷ g ∷ m ∷ 0 ∷ []) ↔ (length cs ≡ 0)
+      inconsistent-iff = (λ e. code-none (length cs) (at 0 (sym (numbers-under h) ∙ e)), λ e. numbers-under h ∙ rw e)
+
+      pub ambiguous-iff : (d : ℕ) → (numbersOf ((decoding n s r c w out) .answer) ≡ 1 ∷ 0 ∷ g ∷ m ∷ d ∷ []) ↔ ((1 ≤ d) × (length cs ≡ 2 ^ d))
+      unfolding dimension
+      ambiguous-iff d = (
+        λ e.
+            let (l, k) = code-more (length cs) (at 0 (sym (numbers-under h) ∙ e)) in
+            let p : length cs ≡ 2 ^ d = dimension-is n ks r w (omega arith) ∙ ap (λ (x : ℕ). 2 ^ x) (sym k ∙ at 4 (sym (numbers-under h) ∙ e)) in
+            (positive d p l, p),
+        λ (l, p).
+            let q = more-code (length cs) (rw p (two d l)) in
+            numbers-under h ∙ ap₂ {C = List ℕ} (λ (x y : ℕ). x ∷ 0 ∷ g ∷ m ∷ y ∷ []) (q .0) (q .1 ∙ dimension-pow cs d p),
+      )
+        where
+          positive : (d : ℕ) → length cs ≡ 2 ^ d → 1 < length cs → 1 ≤ d
+          positive zero p l = absurd (omega arith)
+          positive (suc d) p l = omega arith
+
+          two : (d : ℕ) → 1 ≤ d → 1 < 2 ^ d
+          two zero l = absurd (omega arith)
+          two (suc d) l = omega (arith, pow-pos d)
+
+      -- where any codeword agrees, the strips are written, and bytes past them stay
+      pub shown : 0 < length cs → (decoding n s r c w out) .bytes ≡ strips n cs ++ drop (length (strips n cs)) out
+      shown l = ap (λ (a : Reply). a .bytes) (under h) ∙ verdict-shown n g m out cs l
 
 -- ---- demand 3
 

@@ -8,28 +8,21 @@ use Prim.Native.Nat.{ℕ, _≤_, _<_}
 use native.Mathlib.Omega.{arith}
 use mathlib.Core.Bool.{Bool, true, false}
 use mathlib.Core.List.{List}
-use lib.Dec.{ltb}
 use borrow.Author.Tests.{le-ltb}
-use Rattle.bits.specs.Vectors.{pick}
 use Rattle.bits.proofs.Tests.{le-or-lt}
 use Rattle.meaning.specs.Limits.{largestCeiling}
 use Rattle.meaning.specs.Sheet.{rules}
-use Rattle.meaning.specs.Codewords.{candidates}
-use Rattle.meaning.specs.Open.{unknowns, equations}
-use Rattle.meaning.specs.Answers.{Refusal, firstOf, refuses, formRefusals, Reply, leaving, verdict, decoding}
+use Rattle.meaning.specs.Open.{unknowns}
+use Rattle.meaning.specs.Answers.{Refusal, firstOf, refuses, formRefusals, Reply, leaving, decoding}
 use Rattle.meaning.specs.declared.Answer.the-variants.{TooMany}
 use Rattle.meaning.proofs.Refusals.{first-refused}
-use Rattle.meaning.proofs.Demands.{over, under, over-iff}
+use Rattle.meaning.proofs.Demands.{decided, by-form, over, under, over-iff}
 use Rattle.planning.specs.MoreKnown.{codeOf, gOf, formed}
-use Rattle.planning.proofs.Known.{numbers, formed-none, by-form, g-answered}
+use Rattle.planning.proofs.Known.{numbers, formed-none, g-answered}
 
 module _ (n : ℕ) (s : List ℕ) (r c c′ : ℕ) (w out : List ℕ) (up : c ≤ c′) (limit : c′ ≤ largestCeiling) where
   abbrev g : ℕ
   g = unknowns n (rules n s) w
-
-  -- what stands after the table of form
-  abbrev rest : ℕ → Reply
-  rest k = pick (ltb k g) (leaving out (TooMany g)) (verdict n g (equations n (rules n s) r w) (candidates n (rules n s) r w) out)
 
   same-form : formRefusals n s r c w out ≡ formRefusals n s r c′ w out
   unfolding formRefusals
@@ -40,7 +33,7 @@ module _ (n : ℕ) (s : List ℕ) (r c c′ : ℕ) (w out : List ℕ) (up : c �
     where
       go : (b : Bool) → refuses (formRefusals n s r c w out) ≡ b → (decoding n s r c w out ≡ decoding n s r c′ w out) ⊎ ((decoding n s r c w out ≡ leaving out (TooMany g)) × (c < g))
       go true e =
-          inl (by-form n s r c w out ∙ first-refused (leaving out) (formRefusals n s r c w out) (rest c) (rest c′) e ∙ ap (λ (ts : List Refusal). firstOf (leaving out) ts (rest c′)) same-form
+          inl (by-form n s r c w out ∙ first-refused (leaving out) (formRefusals n s r c w out) (decided n s r c w out) (decided n s r c′ w out) e ∙ ap (λ (ts : List Refusal). firstOf (leaving out) ts (decided n s r c′ w out)) same-form
           ∙ sym (by-form n s r c′ w out))
       go false e =
           ⊎-elim

@@ -1,5 +1,4 @@
 -- More read, never less known, of `decoding`: the word w′ is w with some erased symbols filled in.
---     by-form         the table of form is tried first, then 18, then the verdict
 --     formed-none, none-formed     an answer is a refusal for no reason but 18, or none, exactly where no fault of form is found
 --     g-answered      the g of such an answer is the number of unknowns, in 18 too
 --     balanced        under the ceiling its g and m are bound to the number of erased symbols
@@ -14,21 +13,21 @@ use lib.ListN.{length, take, drop, getD}
 use lib.Dec.{ltb}
 use lib.Pow.{pow-lt, pow-add}
 use borrow.Author.Tests.{ltb-true, ltb-false}
-use Rattle.bits.specs.Vectors.{pick, ones}
+use Rattle.bits.specs.Vectors.{ones}
 use Rattle.bits.proofs.Tests.{le-or-lt}
 use Rattle.meaning.specs.Sheet.{Rule, rules, frees}
 use Rattle.meaning.specs.Codewords.{erased, candidates}
 use Rattle.meaning.specs.Open.{unknowns, equations}
 use Rattle.meaning.specs.Strips.{settledAt, first, last, strips, dimension, log2}
-use Rattle.meaning.specs.Answers.{numbersOf, firstOf, refuses, sheetRefusals, wordRefusals, formRefusals, decodeRefusals, Reply, leaving, verdict, decoding}
+use Rattle.meaning.specs.Answers.{numbersOf, refuses, sheetRefusals, wordRefusals, formRefusals, Reply, leaving, verdict, decoding}
 use Rattle.meaning.specs.declared.Answer.{Answer}
 use Rattle.meaning.specs.declared.Answer.the-variants.{TooMany}
-use Rattle.meaning.proofs.Refusals.{first-append, refused-is, none-append}
+use Rattle.meaning.proofs.Refusals.{refused-is, none-append}
 use Rattle.meaning.proofs.Forms.{worded}
 use Rattle.meaning.proofs.Sound.{length-rules}
 use Rattle.meaning.proofs.Strips.{candidate-long, strips-whole, strips-first, strips-last}
 use Rattle.meaning.proofs.Dimension.{dimension-is}
-use Rattle.meaning.proofs.Demands.{at, codeBy, dBy, verdict-numbers, verdict-shown, verdict-settled, code-one, code-none, code-more, code-small, code-not-18, over, under}
+use Rattle.meaning.proofs.Demands.{at, codeBy, dBy, verdict-numbers, verdict-shown, verdict-settled, code-one, code-none, code-more, code-small, code-not-18, decided, by-form, over, under}
 use Rattle.planning.specs.Filled.{filledIn, fetched}
 use Rattle.planning.specs.MoreKnown.{codeOf, gOf, mOf, dOf, formed, strip, OpenFetched, MoreKnown}
 use Rattle.planning.proofs.Among.{sub-length, among, fewer, settled-kept, narrowed, fewer-by-fetching, as-settled, all-left}
@@ -53,16 +52,11 @@ module _ (n : ℕ) (s : List ℕ) (r c : ℕ) (w out : List ℕ) where
   abbrev cs : List (List Bool)
   cs = candidates n (rules n s) r w
 
-  -- first the table of form, then 18 or the verdict
-  pub by-form : reply ≡ firstOf (leaving out) (formRefusals n s r c w out) (pick (ltb c g) (leaving out (TooMany g)) (verdict n g m cs out))
-  unfolding decoding decodeRefusals
-  by-form = first-append (leaving out) (formRefusals n s r c w out) _ (verdict n g m cs out)
-
   refused-form : refuses (formRefusals n s r c w out) ≡ true → not (formed (numbers reply)) ≡ true
   unfolding formRefusals sheetRefusals wordRefusals
   refused-form h =
       let p : Answer → Bool = λ a. not (formed (numbersOf a)) in
-      ap (λ (t : Reply). p (t .answer)) by-form ∙ refused-is p out (formRefusals n s r c w out) (pick (ltb c g) (leaving out (TooMany g)) (verdict n g m cs out)) refl h
+      ap (λ (t : Reply). p (t .answer)) (by-form n s r c w out) ∙ refused-is p out (formRefusals n s r c w out) (decided n s r c w out) refl h
 
   -- and the other way round
   pub none-formed : refuses (formRefusals n s r c w out) ≡ false → formed (numbers reply) ≡ true

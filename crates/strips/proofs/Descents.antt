@@ -9,12 +9,12 @@ use Prim.Native.Nat.{ℕ, _+_, _-_, _*_, _/_, _^_, _≤_, _<_}
 use native.Mathlib.Nat.{mul-le-mul-right, le-trans, le-of-eq, mul-le-mul}
 use native.Mathlib.Omega.{arith}
 use mathlib.Core.Bool.{Bool, true, false}
-use mathlib.Core.List.{List, [], _∷_, _++_}
+use mathlib.Core.List.{List, _++_}
 use lib.ListN.{length, take, length-take}
 use lib.Dec.{ltb}
 use lib.Pow.{pow-mono}
 use borrow.Author.Tests.{eq-eqb, le-leb, lt-ltb, le-ltb}
-use Rattle.bits.specs.Vectors.{pick, ones, tab}
+use Rattle.bits.specs.Vectors.{pick, tab}
 use Rattle.bits.specs.Rows.{Row, row}
 use Rattle.bits.specs.Rows as bits
 use Rattle.bits.proofs.Tests.{and-i}
@@ -23,9 +23,9 @@ use Rattle.gf2.specs.Solve.{solve}
 use Rattle.gf2.proofs.Rows.{has-⊻}
 use Rattle.gf2.proofs.Solutions.{rank-le}
 use Rattle.meaning.specs.Limits.{largestN, recordBytes, largestCeiling}
-use Rattle.meaning.specs.Sheet.{Rule, free, frozen, ruleAt, rules, frees}
+use Rattle.meaning.specs.Sheet.{ruleAt, rules}
 use Rattle.meaning.specs.Codewords.{candidates}
-use Rattle.meaning.specs.Open.{openAll, closedFrozen, unknowns, equations}
+use Rattle.meaning.specs.Open.{unknowns, equations}
 use Rattle.meaning.specs.Answers.{Reply, leaving}
 use Rattle.meaning.specs.declared.Answer.the-variants.{TooMany}
 use Rattle.meaning.proofs.Sound.{length-rules}
@@ -43,7 +43,8 @@ use Rattle.reading.proofs.Cutting.{rows-agree}
 use Rattle.lanes.specs.Lanes.{rowReply}
 use Rattle.decoder.specs.Deciding.{systemRows}
 use Rattle.decoder.proofs.Systems.{many-rows}
-use Rattle.decoder.proofs.Descents.{closed-frees}
+use Rattle.meaning.proofs.Gap.{g-le-erased}
+use Rattle.planning.proofs.Counts.{balance}
 use Rattle.strips.specs.Repairing.{stripReply}
 use Rattle.strips.specs.Placing.{Placed}
 use Rattle.strips.specs.Deciding.{laneVerdict, repairDeciding, Formed, Settling}
@@ -117,8 +118,7 @@ module _ (co wd n : ℕ) (s : List ℕ) (r c : ℕ) (strip w out vals us eqs : L
     many = ap (λ (k : ℕ). k + r) (T .many) ∙ rows-equations co wd n s w vals (T .symbols) r
 
     few : m + r ≤ 2 ^ n
-    unfolding equations
-    few = omega (arith, many, closed-frees (rules n s) (openAll n w), F .enough, length-rules n s)
+    few = omega (arith, many, balance n (rules n s) r w (length-rules n s) (F .symbols), g-le-erased n (rules n s) w (F .symbols), F .enough)
 
     low : G ≤ 64 * co
     low = let a = T .few in omega (arith, T .unknown)
