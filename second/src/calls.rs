@@ -4,9 +4,8 @@
 // there is none.
 
 use crate::answer::Answer;
-use crate::code::{
-    checked_sequence, filled, free_bits, keeps, remainder, transform, Agreeing, ERASED,
-};
+use crate::check::{checked_sequence, remainder};
+use crate::code::{filled, free_bits, keeps, transform, Agreeing, ERASED};
 use crate::layout::{NEW, OLD};
 use crate::limits::{
     CARTRIDGE_BYTES, HEADER_BYTES, LARGEST_CEILING, LARGEST_EXPONENT, RECORD_BYTES, STRIP_BYTES,
@@ -230,7 +229,7 @@ pub fn convert(n: usize, old: &[u8], out: &mut [u8]) -> Answer {
 }
 
 fn converted(n: usize, old: &[u8], out: &mut [u8]) -> Result<Answer, Answer> {
-    let sheet = NEW.write(&OLD.read(n, old)?.records);
+    let sheet = NEW.write(&OLD.read(n, old)?);
     room(out, sheet.len())?;
     out[..sheet.len()].copy_from_slice(&sheet);
     Ok(Answer::code(0))

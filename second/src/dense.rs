@@ -1,7 +1,8 @@
 // The decoder by one dense system over all N bits of u: every frozen rule, every check
 // equation and every unerased symbol is one equation.
 
-use crate::code::{checked_sequence, remainder, takes_part, Agreeing, ERASED};
+use crate::check::{checked_sequence, remainder};
+use crate::code::{takes_part, Agreeing, ERASED};
 use crate::sheet::Sheet;
 use crate::system::{unit, System};
 

@@ -1,10 +1,39 @@
-// The layouts of a sheet: today's, and the old one of 20-byte records that W-206 put out of use.
-// A record is kind, constant, two zeros and the mask; the layouts differ in the length of the mask
-// and in the largest N.
+// The records of a sheet and their layouts: today's, and the old one of 20-byte records that W-206 put
+// out of use. A record is kind, constant, two zeros and the mask; the layouts differ in the length of
+// the mask and in the largest N. Reading has the refusals 11 (length) and 12 (bad record).
 
 use crate::answer::Answer;
 use crate::limits::{LARGEST_EXPONENT, MASK_BYTES};
-use crate::sheet::{Record, Sheet};
+
+/// Record i: u_i is free, or frozen by its rule.
+#[derive(Clone, Debug, Default, PartialEq, Eq)]
+pub struct Record {
+    pub frozen: bool,
+    pub constant: bool,
+    /// The positions the mask names, rising.
+    pub named: Vec<usize>,
+}
+
+impl Record {
+    /// Record i from its bytes, or nothing where it breaks a rule.
+    fn read(i: usize, bytes: &[u8]) -> Option<Record> {
+        let (head, mask) = bytes.split_at(4);
+        let record = Record {
+            frozen: head[0] == 1,
+            constant: head[1] == 1,
+            named: (0..8 * mask.len())
+                .filter(|j| mask[j / 8] >> (j % 8) & 1 == 1)
+                .collect(),
+        };
+        let form = head[0] <= 1 && head[1] <= 1 && head[2] == 0 && head[3] == 0;
+        let rule = if record.frozen {
+            record.named.iter().all(|&j| j < i)
+        } else {
+            !record.constant && record.named.is_empty()
+        };
+        (form && rule).then_some(record)
+    }
+}
 
 #[derive(Clone, Copy, Debug, PartialEq, Eq)]
 pub struct Layout {
@@ -32,16 +61,15 @@ impl Layout {
         4 + self.mask_bytes
     }
 
-    /// The sheet of N = 2^n records that keep every rule, K = 0 too, or the first refusal of 11, 12.
-    pub fn read(&self, n: usize, bytes: &[u8]) -> Result<Sheet, Answer> {
+    /// The N = 2^n records of a sheet that keep every rule, K = 0 too, or the first refusal of 11, 12.
+    pub fn read(&self, n: usize, bytes: &[u8]) -> Result<Vec<Record>, Answer> {
         let size = self.record_bytes();
         if n > self.largest_exponent || bytes.len() != size << n {
             return Err(Answer::code(11));
         }
-        let records = (bytes.chunks(size).enumerate())
+        (bytes.chunks(size).enumerate())
             .map(|(i, record)| Record::read(i, record).ok_or(Answer::at(12, i)))
-            .collect::<Result<Vec<Record>, Answer>>()?;
-        Ok(Sheet { records })
+            .collect()
     }
 
     /// The bytes of a sheet.

@@ -4,10 +4,11 @@
 
 use crate::answer::Answer;
 use crate::calls;
-use crate::code::{filled, remainder, transform, ERASED};
-use crate::layout::{Layout, NEW};
+use crate::check::remainder;
+use crate::code::{filled, transform, ERASED};
+use crate::layout::{Layout, Record, NEW};
 use crate::rng::Rng;
-use crate::sheet::{Record, Sheet};
+use crate::sheet::Sheet;
 use crate::system::{unit, System};
 
 /// The bytes of a sheet.
@@ -143,8 +144,8 @@ pub fn word_of(sheet: &Sheet, free_bits: &[bool]) -> Vec<u8> {
 
 /// The word of the one u that keeps every rule of a sheet with no free position.
 pub fn only_word(n: usize, sheet: &[u8]) -> Vec<u8> {
-    let sheet = NEW.read(n, sheet).expect("a sheet that keeps every rule");
-    word_of(&sheet, &[])
+    let records = NEW.read(n, sheet).expect("a sheet that keeps every rule");
+    word_of(&Sheet { records }, &[])
 }
 
 /// Ways to misread the check, for r of 6 and 11.

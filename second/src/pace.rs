@@ -3,12 +3,11 @@
 // before W-206 answers them by the same bytes.
 
 use crate::code::ERASED;
-use crate::layout::{Layout, NEW, OLD};
+use crate::layout::{Layout, Record, NEW, OLD};
 use crate::limits::LARGEST_CEILING;
 use crate::make::{any_codeword, bits};
 use crate::protocol::Request;
 use crate::rng::Rng;
-use crate::sheet::Record;
 
 /// The calls that can be measured, each by its op.
 const CALLS: [&str; 3] = ["check_sheet", "encode", "decode"];

@@ -4,8 +4,8 @@
 use crate::calls::{repaired_bytes, strip_answers, Strips};
 use crate::files::File;
 use crate::limits::{CARTRIDGE_BYTES, HEADER_BYTES};
-use crate::lot::{kinds, rising, sheet, Positions};
 use crate::rng::Rng;
+use crate::sample::{kinds, rising, sheet, Positions};
 use crate::sheet::Sheet;
 use crate::show::{number, verdict};
 use crate::words::{put_garbage, Codewords};

@@ -3,7 +3,8 @@
 
 mod common;
 use common::{any_sheet, check_kept, ones, register, register_bits};
-use second::code::{checked_sequence, free_bits, keeps, polynomial, remainder, transform};
+use second::check::{checked_sequence, polynomial, remainder};
+use second::code::{free_bits, keeps, transform};
 use second::limits::LARGEST_EXPONENT;
 use second::make::{bits, Misreading, MISREADINGS};
 use second::rng::Rng;

@@ -6,7 +6,7 @@ use common::BEFORE;
 use second::answer::Answer;
 use second::brute::every_codeword;
 use second::calls;
-use second::code::polynomial;
+use second::check::polynomial;
 use second::layout::{NEW, OLD};
 use second::limits::{LARGEST_EXPONENT, RECORD_BYTES};
 use second::make::{every_sheet, faults_at, good_records, spoil, STYLES};
@@ -21,10 +21,17 @@ fn converted(n: usize, old: &[u8]) -> Vec<u8> {
     out
 }
 
+/// An old sheet and the converted one, each read in its layout.
+fn before_and_after(n: usize, old: &[u8], new: &[u8]) -> [Sheet; 2] {
+    [OLD.read(n, old), NEW.read(n, new)].map(|read| Sheet {
+        records: read.unwrap(),
+    })
+}
+
 /// What the check of before W-206 said: 11, 12, 19 and 13 on old records.
 fn old_check(n: usize, old: &[u8], r: usize) -> Answer {
     let sheet = match OLD.read(n, old) {
-        Ok(sheet) => sheet,
+        Ok(records) => Sheet { records },
         Err(refusal) => return refusal,
     };
     match (sheet.k(), polynomial(r)) {
@@ -54,10 +61,7 @@ fn an_old_sheet_byte_by_byte() {
     }
     old[20 * 4 + 4] = 8;
     assert_eq!(converted(3, &old), common::sheet_e());
-    assert_eq!(
-        OLD.write(&NEW.read(3, &common::sheet_e()).unwrap().records),
-        old
-    );
+    assert_eq!(OLD.write(&NEW.read(3, &common::sheet_e()).unwrap()), old);
 }
 
 #[test]
@@ -68,7 +72,7 @@ fn every_small_sheet_keeps_its_codewords() {
             let old = OLD.write(&records);
             let new = converted(n, &old);
             hold_records(&old, &new);
-            let [before, after] = [OLD.read(n, &old).unwrap(), NEW.read(n, &new).unwrap()];
+            let [before, after] = before_and_after(n, &old, &new);
             assert_eq!(before.k(), after.k());
             none_free += usize::from(before.k() == 0);
             for r in [0, 6, 11] {
@@ -90,7 +94,7 @@ fn sheets_of_eight_keep_their_codewords() {
         let k = rng.within(0, 8);
         let old = OLD.write(&good_records(&mut rng, 8, k, style));
         let new = converted(3, &old);
-        let [before, after] = [OLD.read(3, &old).unwrap(), NEW.read(3, &new).unwrap()];
+        let [before, after] = before_and_after(3, &old, &new);
         assert_eq!(before.k(), after.k());
         for r in [0, 6] {
             let list = every_codeword(&before, r);
@@ -114,7 +118,7 @@ fn three_thousand_longer_sheets() {
         let old = OLD.write(&records);
         let new = converted(n, &old);
         hold_records(&old, &new);
-        assert_eq!(NEW.read(n, &new), Ok(Sheet { records }));
+        assert_eq!(NEW.read(n, &new), Ok(records));
         for r in [0, 6, 11, rng.below(20)] {
             assert_eq!(calls::check_sheet(n, &new, r), old_check(n, &old, r));
         }

@@ -1,58 +1,23 @@
-// Whole strips: each lane held to the decoder of that lane alone, the refusals in their order, the
-// view, strips end to end, and the obvious program.
+// Whole strips: each lane held to the decoder of that lane alone, the refusals in their order, the view
+// of one cartridge, and the obvious program, which says the same.
 
 mod common;
+use common::strips::{any_strip, lane_of, marks, repair, strip_of};
 use common::{any_sheet, numbers, BEFORE};
 use second::answer::Answer;
-use second::calls::{self, header, Strips};
-use second::limits::{CARTRIDGE_BYTES, HEADER_BYTES, LANES, LARGEST_CEILING, RECORD_BYTES};
-use second::make::{any_codeword, bits};
+use second::calls;
+use second::limits::{CARTRIDGE_BYTES, LANES, LARGEST_CEILING, RECORD_BYTES};
 use second::obvious::{Obvious, Outcome};
 use second::requests::Code;
 use second::rng::Rng;
 use second::strips::{first, lanes, record};
 use std::collections::{BTreeMap, BTreeSet};
 
-/// What repairing leaves of a buffer five bytes longer than needed, which stay.
-fn repair(
-    n: usize,
-    sheet: &[u8],
-    r: usize,
-    ceiling: usize,
-    strip: &[u8],
-    lost: &[u8],
-) -> (Answer, Vec<u8>) {
-    let needed = (CARTRIDGE_BYTES + 1) << n;
-    let mut out = vec![BEFORE; needed + 5];
-    let answer = calls::repair(n, sheet, r, ceiling, strip, lost, &mut out);
-    assert_eq!(out.split_off(needed), [BEFORE; 5]);
-    if answer.code > 1 {
-        assert!(out.iter().all(|&byte| byte == BEFORE), "untouched");
-    }
-    (answer, out)
-}
-
-/// Bit t mod 8 of byte t div 8 of a record.
-fn lane_of(record: &[u8], t: usize) -> u8 {
-    record[t / 8] >> (t % 8) & 1
-}
-
 /// The word of lane t.
 fn word(strip: &[u8], lost: &[u8], t: usize) -> Vec<u8> {
     (strip.chunks(CARTRIDGE_BYTES).zip(lost))
         .map(|(record, &mark)| if mark == 1 { 2 } else { lane_of(record, t) })
         .collect()
-}
-
-/// A strip whose lane t is the t-th word.
-fn strip_of(words: &[Vec<u8>]) -> Vec<u8> {
-    let mut strip = vec![0; CARTRIDGE_BYTES * words[0].len()];
-    for (t, word) in words.iter().enumerate() {
-        for (record, bit) in strip.chunks_mut(CARTRIDGE_BYTES).zip(word) {
-            record[t / 8] |= bit << (t % 8);
-        }
-    }
-    strip
 }
 
 /// Other bytes in the records of the lost cartridges.
@@ -114,28 +79,6 @@ fn hold(
         }
     }
     answer
-}
-
-/// Marks at a chance of so many in eight.
-fn marks(rng: &mut Rng, length: usize, losses: usize) -> Vec<u8> {
-    (0..length)
-        .map(|_| u8::from(rng.below(8) < losses))
-        .collect()
-}
-
-/// A strip of codewords, at random or few that come again and again, and some lanes of any bits.
-fn any_strip(rng: &mut Rng, n: usize, sheet: &[u8], r: usize, spoilt: usize) -> Vec<u8> {
-    let different = if n > 6 { 20 } else { 100 };
-    let drawn: Vec<Vec<u8>> = (0..different)
-        .map(|_| any_codeword(rng, n, sheet, r))
-        .collect();
-    let mut words: Vec<Vec<u8>> = (0..LANES)
-        .map(|_| drawn[rng.below(different)].clone())
-        .collect();
-    for _ in 0..spoilt {
-        words[rng.below(LANES)] = bits(rng, 1 << n);
-    }
-    strip_of(&words)
 }
 
 #[test]
@@ -347,98 +290,6 @@ fn a_view_is_one_record_or_empty() {
     for n in [10, 65, 65535] {
         assert!(calls::view(n, &[], 0).is_empty());
         assert!(calls::view(n, &vec![0; CARTRIDGE_BYTES << 10], 0).is_empty());
-    }
-}
-
-/// Strips end to end in two buffers, each with so many bytes more than needed.
-fn end_to_end(
-    sheet: &[u8],
-    choice: &[u8],
-    lost: &[u8],
-    input: &[u8],
-    more: [isize; 2],
-) -> (Answer, Vec<u8>, Vec<u8>) {
-    let Strips { records, repaired } = calls::strip_answers(sheet, choice, lost, input);
-    let room = |bytes: &[u8], more| vec![BEFORE; bytes.len().saturating_add_signed(more)];
-    let mut records = room(&records, more[0]);
-    let mut repaired = room(&repaired, more[1]);
-    let answer = calls::repair_strips(sheet, choice, lost, input, &mut repaired, &mut records);
-    (answer, records, repaired)
-}
-
-#[test]
-fn strips_end_to_end() {
-    let mut rng = Rng::new(5);
-    for n in 0..=6 {
-        let code = Code::any(&mut rng, n, 0);
-        let length = 1 << n;
-        let size = CARTRIDGE_BYTES * length;
-        let lost = marks(&mut rng, length, 2);
-        let mut input = Vec::new();
-        for spoilt in [0, 1, 0, 2] {
-            input.extend(any_strip(&mut rng, n, &code.sheet, 0, spoilt));
-        }
-        for bytes in [
-            0,
-            1,
-            size - 1,
-            size,
-            size + 1,
-            3 * size,
-            4 * size - 1,
-            4 * size,
-        ] {
-            let input = &input[..bytes];
-            let count = bytes.div_ceil(size);
-            let choice = [0, 255];
-            let (answer, records, repaired) =
-                end_to_end(&code.sheet, &choice, &lost, input, [7, 9]);
-            assert_eq!(answer, Answer::code(0));
-            assert_eq!(records.len(), HEADER_BYTES * count + 7);
-            assert_eq!(repaired.len(), 65 * length * count + 9);
-            assert_eq!(records[HEADER_BYTES * count..], [BEFORE; 7]);
-            assert_eq!(repaired[65 * length * count..], [BEFORE; 9]);
-            for (k, strip) in input.chunks(size).enumerate() {
-                let mut out = vec![255; 65 * length];
-                let answer = calls::repair(n, &code.sheet, 0, 255, strip, &lost, &mut out);
-                assert_eq!(records[HEADER_BYTES * k..][..HEADER_BYTES], header(answer));
-                assert_eq!(repaired[65 * length * k..][..65 * length], out);
-                assert!(strip.len() == size || answer == Answer::code(14));
-            }
-            // either buffer one byte short, and both
-            for (at, more) in [[-1, 0], [0, -1], [-1, -1], [-1, 100], [100, -1]]
-                .into_iter()
-                .enumerate()
-            {
-                let (answer, records, repaired) =
-                    end_to_end(&code.sheet, &choice, &lost, input, more);
-                let code = if count == 0 { 0 } else { 16 };
-                assert_eq!(answer, Answer::code(code), "{at}");
-                assert!(count == 0 || records.iter().all(|&byte| byte == BEFORE));
-                assert!(count == 0 || repaired.iter().all(|&byte| byte == BEFORE));
-            }
-            // marks of a wrong length are refused strip by strip
-            let (answer, records, repaired) =
-                end_to_end(&code.sheet, &choice, &lost[1..], input, [0, 0]);
-            assert_eq!(answer, Answer::code(0));
-            assert_eq!(records, header(Answer::code(14)).repeat(count));
-            assert!(repaired.iter().all(|&byte| byte == 255));
-        }
-        for (sheet, choice, one) in [
-            (&code.sheet[1..], &[0, 255][..], 11),
-            (&code.sheet[1..], &[], 11),
-            (&code.sheet, &[0][..], 13),
-            (&code.sheet, &[0, 255, 0], 13),
-        ] {
-            for input in [&[][..], &input] {
-                let (answer, records, repaired) = end_to_end(sheet, choice, &lost, input, [0, 4]);
-                assert_eq!(answer, Answer::code(0));
-                assert_eq!(records, header(Answer::code(one)));
-                assert_eq!(repaired, [BEFORE; 4]);
-                let (answer, ..) = end_to_end(sheet, choice, &lost, input, [-1, 4]);
-                assert_eq!(answer, Answer::code(16));
-            }
-        }
     }
 }
 

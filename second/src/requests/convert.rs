@@ -2,12 +2,11 @@
 // every place of a short sheet, every bit of a mask allowed and barred, and rooms at the edge.
 
 use super::parts::{any_sheet, old_sheet, old_sheets, spoil_in, telling_places};
-use crate::layout::{NEW, OLD};
+use crate::layout::{Record, NEW, OLD};
 use crate::limits::LARGEST_EXPONENT;
 use crate::make::{faults_at, spoil};
 use crate::protocol::Request;
 use crate::rng::Rng;
-use crate::sheet::Record;
 
 pub fn all() -> Vec<Request> {
     [

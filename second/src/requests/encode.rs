@@ -7,11 +7,11 @@ use super::parts::{
     checked_codes, choices, every_none_free, few_choices, first_middle_last, room, symbols,
     zero_payloads, Code, CHECKS, LONG,
 };
+use crate::layout::Record;
 use crate::limits::LARGEST_EXPONENT;
 use crate::make::{bits, bytes, every_word, STYLES};
 use crate::protocol::Request;
 use crate::rng::Rng;
-use crate::sheet::Record;
 
 pub fn all() -> Vec<Request> {
     [

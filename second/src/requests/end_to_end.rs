@@ -2,7 +2,7 @@
 // wrong lengths, strips refused one by one, and rooms at the edge of either buffer.
 
 use super::parts::{exponents, none_free, spoil_somehow, suited, Code, CHECKS, LONG};
-use super::strips::{marks, sound};
+use super::strip_parts::{marks, sound};
 use crate::calls;
 use crate::limits::{
     CARTRIDGE_BYTES, HEADER_BYTES, LANES, LARGEST_CEILING, LARGEST_EXPONENT, RECORD_BYTES,

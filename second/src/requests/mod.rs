@@ -1,4 +1,4 @@
-// The requests that go into the vectors: one module for each op, and what their lists share.
+// The requests that go into the vectors: one module or two for each op, and what their lists share.
 // Every list starts from a seed of its own, so that a new one changes no other.
 
 mod convert;
@@ -6,10 +6,13 @@ mod decode;
 mod encode;
 mod end_to_end;
 mod faults;
+mod losses;
 mod parts;
 mod read_back;
 mod sheets;
 mod stream;
+mod strip_parts;
+mod strip_refusals;
 mod strips;
 mod unknowns;
 mod views;

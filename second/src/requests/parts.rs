@@ -4,7 +4,7 @@
 
 use crate::answer::Answer;
 use crate::calls;
-use crate::layout::{Layout, NEW, OLD};
+use crate::layout::{Layout, Record, NEW, OLD};
 use crate::limits::{LARGEST_CEILING, LARGEST_EXPONENT};
 use crate::make::{
     any_codeword, bits, bytes, codeword, every_sheet, faults_at, frozen_at, frozen_faults_at, good,
@@ -12,7 +12,7 @@ use crate::make::{
 };
 use crate::protocol::Request;
 use crate::rng::Rng;
-use crate::sheet::{Record, Sheet};
+use crate::sheet::Sheet;
 
 /// The codes of N = 2^n symbols are long from this n on.
 pub const LONG: usize = 7;

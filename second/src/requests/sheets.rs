@@ -6,12 +6,11 @@ use super::parts::{
     any_checks, any_sheet, any_style, exponents, first_middle_last, none_free, old_sheets,
     spoil_frozen, spoil_somehow, telling_places, Code, CHECKS, LONG, WRONG_CHECKS,
 };
-use crate::layout::NEW;
+use crate::layout::{Record, NEW};
 use crate::limits::{LARGEST_EXPONENT, MASK_BYTES, RECORD_BYTES};
 use crate::make::{bytes, faults_at, good, spoil, Fault, STYLES};
 use crate::protocol::{Request, INPUT_ROOM};
 use crate::rng::Rng;
-use crate::sheet::Record;
 
 /// Every request, in its order.
 pub fn all() -> Vec<Request> {

@@ -4,11 +4,11 @@
 
 use super::parts::{Code, CHECKS};
 use crate::code::ERASED;
+use crate::layout::Record;
 use crate::limits::LARGEST_CEILING;
 use crate::make::bytes;
 use crate::open;
 use crate::rng::Rng;
-use crate::sheet::Record;
 
 /// g of a word.
 pub fn count(code: &Code, word: &[u8]) -> usize {

@@ -3,7 +3,7 @@
 #![allow(dead_code)] // each test file uses a part of it
 
 use second::answer::Answer;
-use second::calls;
+use second::calls::{self, ANSWER_BYTES};
 use second::code::transform;
 use second::limits::{HEADER_BYTES, LARGEST_EXPONENT, RECORD_BYTES, STRIP_BYTES};
 use second::make::{good, STYLES};
@@ -11,8 +11,15 @@ use second::rng::Rng;
 use second::sheet::Sheet;
 use std::path::{Path, PathBuf};
 
+pub mod strips;
+
 /// What a buffer holds before a call.
 pub const BEFORE: u8 = 165;
+
+/// Whether a buffer is as it was found.
+pub fn untouched(out: &[u8]) -> bool {
+    out.iter().all(|&byte| byte == BEFORE)
+}
 
 /// u_0 = u_1 = u_2 = 0 and u_4 = u_3, written out byte by byte.
 pub fn sheet_e() -> Vec<u8> {
@@ -70,6 +77,16 @@ pub fn record(numbers: [u16; 5], strips: Option<[Vec<u8>; 3]>) -> Vec<u8> {
 /// The five numbers of an answer record.
 pub fn numbers_of(record: &[u8]) -> [u16; 5] {
     [0, 2, 4, 6, 8].map(|at| u16::from_le_bytes([record[at], record[at + 1]]))
+}
+
+/// Code, g, m and d of each record.
+pub fn verdicts(records: &[u8]) -> Vec<[u16; 4]> {
+    assert!(records.len().is_multiple_of(ANSWER_BYTES));
+    let counts = |record: &[u8]| {
+        let [code, _, g, m, d] = numbers_of(record);
+        [code, g, m, d]
+    };
+    records.chunks(ANSWER_BYTES).map(counts).collect()
 }
 
 /// A record of a code with the rest 0 and no strips.
