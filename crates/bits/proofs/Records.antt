@@ -13,7 +13,8 @@ use borrow.Rule.Slice.PartMut.{putMid}
 use Rattle.bits.specs.Vectors.{tab}
 use Rattle.bits.specs.Rows.{Wide, row}
 use Rattle.bits.proofs.Tests.{length-tab, tab-at, tab-snoc}
-use Rattle.bits.proofs.RowLaws.{length-flatten, rows-front, put-behind}
+use Rattle.bits.proofs.RowLaws.{length-flatten, rows-front}
+use Rattle.bits.proofs.RowsWritten.{put-behind}
 
 pub flatten-append : {A : Type 0} (a b : List (List A)) → flatten (a ++ b) ≡ flatten a ++ flatten b
 unfolding flatten

@@ -1,6 +1,6 @@
 -- Tests over lists: `filter`, `any`, `all`, `count`, `tab`.
---     all-at, at-all               all of a list, by index
---     not-both, eq-or-ne, le-or-lt     one or the other: two tests, two numbers
+--     all-at, at-all, getD-map     all of a list, and a list of values, by index
+--     not-both, eq-or-ne, le-or-lt, lt-or-gt     one or the other: two tests, two numbers
 use mathlib.Core.Path.{_≡_, refl, sym, ap, ap₂, _∙_}
 use mathlib.Core.Logic.{_⊎_, inl, inr, ⊎-elim}
 use Prim.Native.Nat.{ℕ, zero, suc, _+_, _≤_, _<_}
@@ -28,6 +28,14 @@ and-i a b p q = rw p q
 pub and-false : (a b : Bool) → b ≡ false → a && b ≡ false
 and-false true b h = h
 and-false false b h = refl
+
+pub and-true : (a : Bool) → a && true ≡ a
+and-true true = refl
+and-true false = refl
+
+pub or-true : (a : Bool) → a || true ≡ true
+or-true true = refl
+or-true false = refl
 
 pub or-false-l : (a b : Bool) → a || b ≡ false → a ≡ false
 or-false-l true b h = absurd (true≢false h)
@@ -244,6 +252,11 @@ module _ {A : Type 0} (p : A → Bool) (d : A) where
   at-all [] h = refl
   at-all (a ∷ l) h = and-i (p a) (all p l) (h zero (omega arith)) (at-all l (λ i k. h (suc i) (omega arith)))
 
+pub getD-map : {A B : Type 0} (f : A → B) (l : List A) (i : ℕ) (d : A) (c : B) → i < length l → getD (map f l) i c ≡ f (getD l i d)
+getD-map f [] i d c h = absurd (omega arith)
+getD-map f (a ∷ l) zero d c h = refl
+getD-map f (a ∷ l) (suc i) d c h = getD-map f l i d c (omega arith)
+
 pub count-none : {A : Type 0} (l : List A) → count (λ (a : A). false) l ≡ 0
 count-none [] = refl
 count-none (x ∷ l) = omega (arith, count-none l)
@@ -263,3 +276,6 @@ pub le-or-lt : (a b : ℕ) → (a ≤ b) ⊎ (b < a)
 le-or-lt zero b = inl (omega arith)
 le-or-lt (suc a) zero = inr (omega arith)
 le-or-lt (suc a) (suc b) = ⊎-elim (λ q. inl (omega arith)) (λ q. inr (omega arith)) (le-or-lt a b)
+
+pub lt-or-gt : (a b : ℕ) → (a ≡ b → ⊥) → (a < b) ⊎ (b < a)
+lt-or-gt a b n = ⊎-elim (λ (q : a ≤ b). inl (omega arith)) inr (le-or-lt a b)

@@ -31,7 +31,7 @@ use Rattle.bits.proofs.Words.{bit-cases, mod-two, and-half, and-low, pa
 
 -- ---- bits as tests
 
-one-xor : (p q : ℕ) → p < 2 → q < 2 → eqb ((p + q) % 2) 1 ≡ eqb p 1 ⊕ eqb q 1
+pub one-xor : (p q : ℕ) → p < 2 → q < 2 → eqb ((p + q) % 2) 1 ≡ eqb p 1 ⊕ eqb q 1
 one-xor p q hp hq =
     bit-cases (λ p. eqb ((p + q) % 2) 1 ≡ eqb p 1 ⊕ eqb q 1)
     (bit-cases (λ q. eqb ((0 + q) % 2) 1 ≡ eqb 0 1 ⊕ eqb q 1) refl refl q hq)

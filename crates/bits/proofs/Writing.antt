@@ -16,7 +16,8 @@ use lib.Dec.{leb}
 use borrow.Author.Tests.{leb-true, le-leb, lt-leb, not-true, not-false}
 use Rattle.bits.specs.Rows.{Row, part, lies, apart}
 use Rattle.bits.proofs.Tests.{and-l, and-r, and-false, bool-ext}
-use Rattle.bits.proofs.RowLaws.{Apart, getD-part, lies-true, apart-true}
+use Rattle.bits.proofs.RowLaws.{Apart, getD-part}
+use Rattle.bits.proofs.RowsWritten.{lies-true, apart-true}
 
 pub record Pasted (d₀ : List ℕ) (to : ℕ) (x : Row) (w : ℕ) (d : List ℕ) (k : ℕ) : Type 0 where
   pub some : k ≤ w

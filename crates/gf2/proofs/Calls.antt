@@ -1,26 +1,24 @@
 -- From the contract of `eliminate` to the laws: what a caller has of the slices at exit.
 --     determined      two results that the contract allows are equal: the answer and every word
---     fitting         what it means that the shapes fit
+--     fitting, all-fit     what it means that the shapes fit, and what makes it so
 --     unfit           on a misfit nothing was changed
 --     left            else the rows at exit are those of `solve`, and the answer is its rank
-use mathlib.Core.Path.{_≡_, sym, ap, _∙_}
+use mathlib.Core.Path.{_≡_, refl, sym, ap, _∙_}
 use Prim.Native.Nat.{ℕ, _*_, _/_, _%_, _≤_, _<_}
 use native.Mathlib.Omega.{arith}
 use mathlib.Core.Bool.{Bool, true, false, _&&_, not}
 use lib.Dec.{eqb, ltb}
-use mathlib.Core.List.{List}
+use mathlib.Core.List.{List, flatten}
 use lib.ListN.{length}
-use borrow.Author.Tests.{eqb-true, not-true, eqb-false, ltb-false}
+use borrow.Author.Tests.{eqb-true, not-true, eqb-false, ltb-false, eq-eqb, ne-eqb, le-ltb}
 use Rattle.bits.specs.Vectors.{pick}
 use Rattle.bits.proofs.Tests.{and-l, and-r}
-use Rattle.bits.specs.Rows.{Row}
-use Rattle.gf2.specs.Rows.{rowsOf, flat}
+use Rattle.bits.specs.Rows.{Row, _⊻_, rowsOf, Wide}
 use Rattle.gf2.specs.Solve.{solve, Done, done, fits, solved}
-use Rattle.gf2.specs.System.{Wide}
 use Rattle.gf2.specs.declared.Outcome.{Outcome}
 use Rattle.gf2.specs.declared.Outcome.the-variants.{Misfit, Rank}
-use Rattle.bits.proofs.RowLaws.{length-⊻}
-use Rattle.gf2.proofs.Cut.{wide-rows, rowsOf-flat, whole-rows}
+use Rattle.bits.proofs.RowXor.{length-⊻}
+use Rattle.bits.proofs.RowLaws.{wide-rows, wide-at, at-wide, rowsOf-flatten, whole-rows}
 use Rattle.gf2.proofs.Passes.{span, solve-sized}
 
 -- two results of one call
@@ -31,11 +29,12 @@ determined c w e r e₁ r₁ e₂ r₂ o₁ o₂ p q =
     (ap (λ (d : Done). d .eqs) s, ap (λ (d : Done). d .rest) s, ap (λ (d : Done). d .out) s)
 
 -- the model keeps the width
-solve-wide : (c w : ℕ) (e r : List Row) → Wide w e → Wide w r → Wide w ((solve c e r) .eqs) × Wide w ((solve c e r) .rest)
+pub solve-wide : (c w : ℕ) (e r : List Row) → Wide w e → Wide w r → Wide w ((solve c e r) .eqs) × Wide w ((solve c e r) .rest)
 solve-wide c w e r he hr =
     let z = solve-sized c e r in
-    let o = span c e r (λ x. length x ≡ w) (λ x y p q. length-⊻ x y w p q) (λ j x. length x ≡ w) (λ j x y p q. length-⊻ x y w p q) he hr in
-    (o .0, λ i l. o .1 i (omega arith))
+    let closed : (x y : Row) → length x ≡ w → length y ≡ w → length (x ⊻ y) ≡ w = λ x y p q. length-⊻ x y w p q in
+    let o = span c e r (λ x. length x ≡ w) closed (λ j x. length x ≡ w) (λ j. closed) (wide-at w e he) (wide-at w r hr) in
+    (at-wide w ((solve c e r) .eqs) (o .0), at-wide w ((solve c e r) .rest) (λ i l. o .1 i (omega arith)))
 
 -- what `fits` says
 pub record Fitting (c w : ℕ) (e r : List ℕ) : Type 0 where
@@ -61,12 +60,17 @@ fitting c w e r h =
       rest-len = whole-rows (length r) w (eqb-true (length r % w) 0 (and-r (a && b && d) f h));
     }
 
+-- and what makes it so
+pub all-fit : (c w : ℕ) (e r : List ℕ) → (w ≡ 0 → ⊥) → c ≤ w → length e % w ≡ 0 → length r % w ≡ 0 → fits c w e r ≡ true
+unfolding fits
+all-fit c w e r a b d h = rw (ne-eqb w 0 a, le-ltb w c b, eq-eqb (length e % w) 0 d, eq-eqb (length r % w) 0 h) refl
+
 -- what a call leaves of slices that do not fit
 pub unfit : (c w : ℕ) (e r e₁ r₁ : List ℕ) (o : Outcome) → fits c w e r ≡ false → done e₁ r₁ o ≡ solved c w e r → (e₁ ≡ e) × (r₁ ≡ r) × (o ≡ Misfit)
 unfolding solved
 unfit c w e r e₁ r₁ o f h =
     let s = solve c (rowsOf w e) (rowsOf w r) in
-    let g : done e₁ r₁ o ≡ done e r Misfit = h ∙ ap (λ (b : Bool). pick b (done (flat (s .eqs)) (flat (s .rest)) (Rank (s .rank))) (done e r Misfit)) f in
+    let g : done e₁ r₁ o ≡ done e r Misfit = h ∙ ap (λ (b : Bool). pick b (done (flatten (s .eqs)) (flatten (s .rest)) (Rank (s .rank))) (done e r Misfit)) f in
     (ap (λ (d : Done). d .eqs) g, ap (λ (d : Done). d .rest) g, ap (λ (d : Done). d .out) g)
 
 -- what a call leaves of slices that fit
@@ -80,10 +84,13 @@ unfolding solved
 left c w e r e₁ r₁ o f h =
     let F = fitting c w e r f in
     let s = solve c (rowsOf w e) (rowsOf w r) in
-    let g : done e₁ r₁ o ≡ done (flat (s .eqs)) (flat (s .rest)) (Rank (s .rank)) = h ∙ ap (λ (b : Bool). pick b (done (flat (s .eqs)) (flat (s .rest)) (Rank (s .rank))) (done e r Misfit)) f in
-    let (we, wr) = solve-wide c w (rowsOf w e) (rowsOf w r) (wide-rows w (length e / w) e (F .eqs-len)) (wide-rows w (length r / w) r (F .rest-len)) in
+    let t : Done = done (flatten (s .eqs)) (flatten (s .rest)) (Rank (s .rank)) in
+    let g : done e₁ r₁ o ≡ t = h ∙ ap (λ (b : Bool). pick b t (done e r Misfit)) f in
+    let he = wide-rows w (length e / w) e (omega (arith, F .eqs-len)) in
+    let hr = wide-rows w (length r / w) r (omega (arith, F .rest-len)) in
+    let (we, wr) = solve-wide c w (rowsOf w e) (rowsOf w r) he hr in
     record {
-      eqs-are = ap (λ (d : Done). rowsOf w (d .eqs)) g ∙ rowsOf-flat w (s .eqs) (F .width) we;
-      rest-are = ap (λ (d : Done). rowsOf w (d .rest)) g ∙ rowsOf-flat w (s .rest) (F .width) wr;
+      eqs-are = ap (λ (d : Done). rowsOf w (d .eqs)) g ∙ rowsOf-flatten w (s .eqs) (F .width) we;
+      rest-are = ap (λ (d : Done). rowsOf w (d .rest)) g ∙ rowsOf-flatten w (s .rest) (F .width) wr;
       rank-is = ap (λ (d : Done). d .out) g;
     }

@@ -14,13 +14,12 @@ use lib.Dec.{eqb}
 use borrow.Author.Tests.{eq-eqb, ne-eqb, eqb-true, eqb-false, not-true, not-false}
 use Rattle.bits.specs.Words.{hasBit}
 use Rattle.bits.proofs.WordBits.{zero-bit, leading-bit}
-use Rattle.bits.specs.Rows.{Row}
-use Rattle.gf2.specs.Rows.{hasAt, has}
+use Rattle.bits.specs.Rows.{Row, hasAt, has}
 use Rattle.gf2.specs.Solve.{top, lead}
 use Rattle.gf2.specs.Inner.{used}
-use Rattle.gf2.proofs.Rows.{has-is}
+use Rattle.bits.proofs.RowXor.{has-is}
 use Rattle.gf2.proofs.Leads.{top-le, top-holds, top-above, top-none, top-is}
-use Rattle.gf2.proofs.Cut.{getD-part}
+use Rattle.bits.proofs.RowLaws.{getD-part}
 
 -- ---- from the end down
 

@@ -10,10 +10,9 @@ use native.Mathlib.Nat.{eq-or-lt-of-le}
 use mathlib.Core.Bool.{Bool, true, false}
 use Rattle.bits.specs.Vectors.{_⊕_, pick}
 use Rattle.bits.proofs.Tests.{not-both, le-or-lt}
-use Rattle.bits.specs.Rows.{Row, _⊻_}
-use Rattle.gf2.specs.Rows.{has}
+use Rattle.bits.specs.Rows.{Row, _⊻_, has}
 use Rattle.gf2.specs.Solve.{top, lead}
-use Rattle.gf2.proofs.Rows.{has-⊻}
+use Rattle.bits.proofs.RowXor.{has-⊻}
 
 -- ---- the highest place at which a test holds
 

@@ -10,8 +10,7 @@ use borrow.Author.Tests.{not-true}
 use Rattle.bits.specs.Vectors.{_⊕_}
 use Rattle.bits.proofs.Xor.{⊕-false}
 use Rattle.bits.proofs.Tests.{bool-ext, all-at, at-all}
-use Rattle.bits.specs.Rows.{Row, _⊻_}
-use Rattle.gf2.specs.Rows.{at}
+use Rattle.bits.specs.Rows.{Row, _⊻_, at}
 use Rattle.gf2.specs.Solve.{solve}
 use Rattle.gf2.specs.System.{Each, Hom, vanishes}
 use Rattle.gf2.proofs.Passes.{span, back}

@@ -13,12 +13,10 @@ use Rattle.bits.specs.Vectors.{_⊕_, odd}
 use Rattle.bits.specs.Words.{oddOf, wordBits}
 use Rattle.bits.proofs.Xor.{⊕-swap}
 use Rattle.bits.proofs.WordBits.{odd-xor, length-wordBits, odd-wordBits}
-use Rattle.bits.specs.Rows.{Row}
-use Rattle.gf2.specs.Rows.{hasAt}
+use Rattle.bits.specs.Rows.{Row, hasAt}
 use Rattle.gf2.specs.System.{Hom, dot, unpack, parity}
-use Rattle.bits.proofs.RowLaws.{getD-⊻}
-use Rattle.gf2.proofs.Rows.{has-is}
-use Rattle.gf2.proofs.Fill.{dot-append}
+use Rattle.bits.proofs.RowXor.{getD-⊻, has-is}
+use Rattle.gf2.proofs.Sums.{dot-append}
 
 pub parity-hom : (c : ℕ) (z : Row) → Hom (parity c z)
 unfolding parity

@@ -8,17 +8,16 @@ use mathlib.Core.Logic.{⊎-elim}
 use Prim.Native.Nat.{ℕ, zero, suc, _+_, _<_}
 use native.Mathlib.Omega.{arith}
 use mathlib.Core.Bool.{Bool, true, false, _&&_}
-use mathlib.Core.List.{List, [], _∷_, map}
-use lib.ListN.{length, getD, length-set, length-map}
+use mathlib.Core.List.{List, [], map}
+use lib.ListN.{length, length-set, length-map}
 use lib.Seq.{getD-set-same, getD-set-other}
 use Rattle.bits.specs.Vectors.{_⊕_, pick}
 use Rattle.bits.proofs.Xor.{⊕-false}
-use Rattle.bits.proofs.Tests.{eq-or-ne}
-use Rattle.bits.specs.Rows.{Row, _⊻_}
-use Rattle.gf2.specs.Rows.{has, clearAt, clear, at}
-use Rattle.gf2.specs.Solve.{lead, Sys, sys, pass, step, steps, solve}
+use Rattle.bits.proofs.Tests.{eq-or-ne, getD-map}
+use Rattle.bits.specs.Rows.{Row, _⊻_, has, at}
+use Rattle.gf2.specs.Solve.{clearAt, clear, lead, Sys, sys, pass, step, steps, solve}
 use Rattle.gf2.specs.System.{Each}
-use Rattle.gf2.proofs.Rows.{has-⊻}
+use Rattle.bits.proofs.RowXor.{has-⊻}
 
 -- ---- a row cleared
 
@@ -49,11 +48,6 @@ either-clear P b e x f = go (has b x)
     go false h = h
 
 -- ---- a step, row by row
-
-pub getD-map : {A B : Type 0} (f : A → B) (l : List A) (i : ℕ) (d : A) (c : B) → i < length l → getD (map f l) i c ≡ f (getD l i d)
-getD-map f [] i d c h = absurd (omega arith)
-getD-map f (a ∷ l) zero d c h = refl
-getD-map f (a ∷ l) (suc i) d c h = getD-map f l i d c (omega arith)
 
 module _ (b i : ℕ) (s : Sys) where
   pub pass-eqs-length : length ((pass (suc b) i s) .eqs) ≡ length (s .eqs)

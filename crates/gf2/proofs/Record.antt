@@ -10,12 +10,11 @@ use mathlib.Core.List.{List, [], _∷_}
 use lib.ListN.{length, length-replicate}
 use lib.Dec.{eqb, eqb·zero-suc, eqb·suc-zero, eqb·suc-suc}
 use Rattle.bits.specs.Vectors.{_⊕_, pick}
-use Rattle.bits.specs.Rows.{Row, _⊻_}
-use Rattle.gf2.specs.Rows.{at}
+use Rattle.bits.specs.Rows.{Row, _⊻_, at, Wide, noughtRow}
 use Rattle.gf2.specs.Solve.{solve}
-use Rattle.gf2.specs.System.{Each, Wide, zeroRow, sumOf, marks}
-use Rattle.bits.proofs.RowLaws.{⊻-comm, ⊻-assoc, length-⊻, nought-⊻}
-use Rattle.gf2.proofs.Rows.{⊻-left-comm, ⊻-self, has-⊻}
+use Rattle.gf2.specs.System.{Each, sumOf, marks}
+use Rattle.bits.proofs.RowXor.{⊻-comm, ⊻-assoc, length-⊻, nought-⊻, ⊻-left-comm, ⊻-self, has-⊻}
+use Rattle.bits.proofs.RowLaws.{wide-at}
 use Rattle.gf2.proofs.Passes.{span}
 
 -- ---- sums of some of the rows
@@ -23,10 +22,10 @@ use Rattle.gf2.proofs.Passes.{span}
 length-sumOf : (w : ℕ) (e : List Row) (f : ℕ → Bool) → Wide w e → length (sumOf w e f) ≡ w
 unfolding sumOf
 length-sumOf w [] f h = length-replicate w 0
-length-sumOf w (x ∷ e) f h = go (f 0) (length-sumOf w e (λ (k : ℕ). f (suc k)) (λ i l. h (suc i) (omega arith)))
+length-sumOf w (x ∷ e) f (n, h) = go (f 0) (length-sumOf w e (λ (k : ℕ). f (suc k)) h)
   where
     go : (b : Bool) → length (sumOf w e (λ (k : ℕ). f (suc k))) ≡ w → length (pick b (x ⊻ sumOf w e (λ (k : ℕ). f (suc k))) (sumOf w e (λ (k : ℕ). f (suc k)))) ≡ w
-    go true q = length-⊻ x (sumOf w e (λ (k : ℕ). f (suc k))) w (h 0 (omega arith)) q
+    go true q = length-⊻ x (sumOf w e (λ (k : ℕ). f (suc k))) w n q
     go false q = q
 
 sumOf-ext : (w : ℕ) (e : List Row) (f g : ℕ → Bool) → ((k : ℕ) → k < length e → f k ≡ g k) → sumOf w e f ≡ sumOf w e g
@@ -34,7 +33,7 @@ unfolding sumOf
 sumOf-ext w [] f g h = refl
 sumOf-ext w (x ∷ e) f g h = ap₂ (λ (b : Bool) (s : Row). pick b (x ⊻ s) s) (h 0 (omega arith)) (sumOf-ext w e (λ (k : ℕ). f (suc k)) (λ (k : ℕ). g (suc k)) (λ k l. h (suc k) (omega arith)))
 
-sumOf-none : (w : ℕ) (e : List Row) → sumOf w e (λ (k : ℕ). false) ≡ zeroRow w
+sumOf-none : (w : ℕ) (e : List Row) → sumOf w e (λ (k : ℕ). false) ≡ noughtRow w
 unfolding sumOf
 sumOf-none w [] = refl
 sumOf-none w (x ∷ e) = sumOf-none w e
@@ -42,15 +41,15 @@ sumOf-none w (x ∷ e) = sumOf-none w e
 -- the sum of two sums
 sumOf-⊻ : (w : ℕ) (e : List Row) (f g : ℕ → Bool) → Wide w e → sumOf w e f ⊻ sumOf w e g ≡ sumOf w e (λ (k : ℕ). f k ⊕ g k)
 unfolding sumOf
-sumOf-⊻ w [] f g h = nought-⊻ w (zeroRow w) (length-replicate w 0)
-sumOf-⊻ w (x ∷ e) f g h =
+sumOf-⊻ w [] f g h = nought-⊻ w (noughtRow w) (length-replicate w 0)
+sumOf-⊻ w (x ∷ e) f g (n, h) =
     go (f 0) (g 0) (sumOf w e (λ (k : ℕ). f (suc k))) (sumOf w e (λ (k : ℕ). g (suc k))) (sumOf w e (λ (k : ℕ). f (suc k) ⊕ g (suc k)))
-    (sumOf-⊻ w e (λ (k : ℕ). f (suc k)) (λ (k : ℕ). g (suc k)) (λ i l. h (suc i) (omega arith)))
-    (length-sumOf w e (λ (k : ℕ). f (suc k) ⊕ g (suc k)) (λ i l. h (suc i) (omega arith)))
+    (sumOf-⊻ w e (λ (k : ℕ). f (suc k)) (λ (k : ℕ). g (suc k)) h)
+    (length-sumOf w e (λ (k : ℕ). f (suc k) ⊕ g (suc k)) h)
   where
     go : (a b : Bool) (s t u : Row) → s ⊻ t ≡ u → length u ≡ w → pick a (x ⊻ s) s ⊻ pick b (x ⊻ t) t ≡ pick (a ⊕ b) (x ⊻ u) u
     go true true s t u q m =
-        ⊻-assoc x s (x ⊻ t) ∙ ap (λ (v : Row). x ⊻ v) (⊻-left-comm s x t) ∙ sym (⊻-assoc x x (s ⊻ t)) ∙ ap₂ _⊻_ (⊻-self x w (h 0 (omega arith))) q ∙ nought-⊻ w u m
+        ⊻-assoc x s (x ⊻ t) ∙ ap (λ (v : Row). x ⊻ v) (⊻-left-comm s x t) ∙ sym (⊻-assoc x x (s ⊻ t)) ∙ ap₂ _⊻_ (⊻-self x w n) q ∙ nought-⊻ w u m
     go true false s t u q m = ⊻-assoc x s t ∙ ap (λ (v : Row). x ⊻ v) q
     go false true s t u q m = ⊻-left-comm s x t ∙ ap (λ (v : Row). x ⊻ v) q
     go false false s t u q m = q
@@ -59,11 +58,11 @@ sumOf-⊻ w (x ∷ e) f g h =
 sumOf-one : (w : ℕ) (e : List Row) (i : ℕ) → Wide w e → i < length e → sumOf w e (eqb i) ≡ at e i
 unfolding sumOf
 sumOf-one w [] i h l = absurd (omega arith)
-sumOf-one w (x ∷ e) zero h l =
+sumOf-one w (x ∷ e) zero (n, h) l =
     ap (λ (s : Row). x ⊻ s) (sumOf-ext w e (λ (k : ℕ). eqb 0 (suc k)) (λ (k : ℕ). false) (λ k m. eqb·zero-suc k) ∙ sumOf-none w e)
-    ∙ ⊻-comm x (zeroRow w) ∙ nought-⊻ w x (h 0 (omega arith))
-sumOf-one w (x ∷ e) (suc i) h l =
-    rw (eqb·suc-zero i) (sumOf-ext w e (λ (k : ℕ). eqb (suc i) (suc k)) (eqb i) (λ k m. eqb·suc-suc i k) ∙ sumOf-one w e i (λ j n. h (suc j) (omega arith)) (omega arith))
+    ∙ ⊻-comm x (noughtRow w) ∙ nought-⊻ w x n
+sumOf-one w (x ∷ e) (suc i) (n, h) l =
+    rw (eqb·suc-zero i) (sumOf-ext w e (λ (k : ℕ). eqb (suc i) (suc k)) (eqb i) (λ k m. eqb·suc-suc i k) ∙ sumOf-one w e i h (omega arith))
 
 -- ---- the law
 
@@ -79,7 +78,7 @@ module _ (c w o : ℕ) (e r : List Row) (we : Wide w e)
   )
 
   given : Each Made e
-  given i l = (we i l, sym (sumOf-ext w e (marks o (at e i)) (eqb i) (λ k m. ones i k l m) ∙ sumOf-one w e i we l))
+  given i l = (wide-at w e we i l, sym (sumOf-ext w e (marks o (at e i)) (eqb i) (λ k m. ones i k l m) ∙ sumOf-one w e i we l))
 
   -- each equation after is the sum of those given that its bits name
   pub eqs-made : (i : ℕ) → i < length ((solve c e r) .eqs) → at ((solve c e r) .eqs) i ≡ sumOf w e (marks o (at ((solve c e r) .eqs) i))
@@ -96,5 +95,8 @@ module _ (c w o : ℕ) (e r : List Row) (we : Wide w e)
             ∙ ap (λ (v : Row). at r i ⊻ v) (sumOf-⊻ w e (marks o x) (marks o y) we ∙ sumOf-ext w e (λ (k : ℕ). marks o x k ⊕ marks o y k) (marks o (x ⊻ y)) (λ k m. sym (has-⊻ (o + k) x y))),
       ))
       given
-      (λ i m. (wr i m, sym (ap (λ (v : Row). at r i ⊻ v) (sumOf-ext w e (marks o (at r i)) (λ (k : ℕ). false) (λ k n. clean i k m n) ∙ sumOf-none w e) ∙ ⊻-comm (at r i) (zeroRow w) ∙ nought-⊻ w (at r i) (wr i m))))
+      (λ i m.
+      let none : sumOf w e (marks o (at r i)) ≡ noughtRow w = sumOf-ext w e (marks o (at r i)) (λ (k : ℕ). false) (λ k n. clean i k m n) ∙ sumOf-none w e in
+      let l = wide-at w r wr i m in
+      (l, sym (ap (λ (v : Row). at r i ⊻ v) none ∙ ⊻-comm (at r i) (noughtRow w) ∙ nought-⊻ w (at r i) l)))
       .1 j l .1

@@ -15,12 +15,11 @@ use lib.Dec.{eqb, eqb·suc-zero}
 use Rattle.bits.specs.Vectors.{_⊕_, bit, pick, count}
 use Rattle.bits.proofs.Tests.{not-both, eq-or-ne}
 use Rattle.bits.proofs.WordBits.{no-bits, zero-bit}
-use Rattle.bits.specs.Rows.{Row, _⊻_}
-use Rattle.gf2.specs.Rows.{hasAt, has, clearAt, clear, at}
-use Rattle.gf2.specs.Solve.{lead, Sys, sys, pass, solve}
+use Rattle.bits.specs.Rows.{Row, _⊻_, hasAt, has, at}
+use Rattle.gf2.specs.Solve.{clearAt, clear, lead, Sys, sys, pass, solve}
 use Rattle.gf2.specs.System.{led, Cleared, Reduced, Distinct}
 use Rattle.gf2.proofs.Tally.{tally, tally-ext, count-tally}
-use Rattle.gf2.proofs.Rows.{has-is}
+use Rattle.bits.proofs.RowXor.{has-is}
 use Rattle.gf2.proofs.Leads.{top-none, lead-holds, lead-above, lead-le, below-lead, lead-add}
 use Rattle.gf2.proofs.Passes.{has-clear, pass-eqs-length, pass-rest-length, pass-same, pass-other, pass-rest, pass-rank, Sized, solve-ind}
 

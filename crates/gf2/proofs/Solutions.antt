@@ -1,5 +1,6 @@
 -- Law 3: the solutions of a system, read off its reduced equations. κ is any constant of a row that takes XOR to XOR.
 -- g is the number of unknowns: no given equation has a coefficient at or above it. `after`, `rest` are the rows that elimination leaves.
+--     after-length, rest-length, length-completed     as many rows after as before; a completion is as long as what it completes
 --     solves-same, rest-values     law 1 at an assignment: the same solutions, and rows of the rest keep their values
 --     after-within, rest-within    no coefficient at or above g comes up
 --     solvable                     there is a solution just where no equation with no coefficient has the constant 1
@@ -22,15 +23,15 @@ use Rattle.bits.specs.Vectors.{_⊕_, pick, any, count, allBits, before}
 use Rattle.bits.proofs.Xor.{eq-⊕}
 use Rattle.bits.proofs.Tests.{bool-ext, not-both, count-ext}
 use Rattle.bits.proofs.Rising.{any-bits, bits-any}
-use Rattle.bits.specs.Rows.{Row}
-use Rattle.gf2.specs.Rows.{has, at}
+use Rattle.bits.specs.Rows.{Row, has, at}
 use Rattle.gf2.specs.Solve.{lead, solve}
 use Rattle.gf2.specs.System.{Within, Hom, Distinct, dot, value, solves, consistent, owner, completed, unit}
 use Rattle.gf2.proofs.Leads.{lead-holds, lead-⊻-le}
 use Rattle.gf2.proofs.Passes.{solve-sized, span}
 use Rattle.gf2.proofs.Linear.{same-solutions, rest-same-values, vanishes-at}
 use Rattle.gf2.proofs.Reduced.{reduced, distinct, rank-counts}
-use Rattle.gf2.proofs.Fill.{value-hom, dot-ext, dot-no-lead, dot-fill, dot-zeros, dot-unit, owner-some, value-lead, length-fill, fill-free, is-consistent, is-solved, is-completed, is-unique, is-first, is-last, count-led-le, is-counted}
+use Rattle.gf2.proofs.Sums.{value-hom, dot-ext, dot-no-lead, dot-zeros, dot-unit}
+use Rattle.gf2.proofs.Fill.{dot-fill, owner-some, value-lead, length-fill, fill-free, is-consistent, is-solved, is-completed, is-unique, is-first, is-last, count-led-le, is-counted}
 
 module _ (c : ℕ) (e r : List Row) where
   abbrev pub after : List Row
@@ -38,6 +39,16 @@ module _ (c : ℕ) (e r : List Row) where
 
   abbrev pub rest : List Row
   rest = (solve c e r) .rest
+
+  -- as many rows after as before
+  pub after-length : length after ≡ length e
+  after-length = solve-sized c e r .0
+
+  pub rest-length : length rest ≡ length r
+  rest-length = solve-sized c e r .1
+
+  pub length-completed : (κ : Row → Bool) (z : List Bool) → length (completed c κ after z) ≡ length z
+  length-completed κ z = length-fill c κ after [] z
 
   after-distinct : Distinct c after
   after-distinct = distinct c after rest (reduced c e r)
@@ -81,7 +92,9 @@ module _ (c : ℕ) (e r : List Row) where
           let o = replicate g false in
           bool-ext (any (solves κ e) (allBits g)) (consistent c κ after)
           (λ h. let (z, n, s) = any-bits (solves κ e) g h in solution-consistent z n s)
-          (λ h. bits-any (solves κ e) g (completed c κ after o) (length-fill c κ after [] o ∙ length-replicate g false) (completed-solves h o (length-replicate g false)))
+          (λ h.
+          let n = length-replicate g false in
+          bits-any (solves κ e) g (completed c κ after o) (length-completed κ o ∙ n) (completed-solves h o n))
 
       -- ---- which vectors are solutions
 

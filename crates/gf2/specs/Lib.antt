@@ -1,6 +1,5 @@
--- Rows: rows of words. Solve: the elimination and what `eliminate` answers. System: what the laws are stated with.
+-- Solve: the elimination and what `eliminate` answers. System: what the laws are stated with.
 -- Inner: what only the contracts of the inner functions use.
-pub mod Rows
 pub mod Solve
 pub mod System
 pub mod Inner

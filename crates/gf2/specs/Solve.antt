@@ -1,4 +1,5 @@
 -- Gauss-Jordan elimination on lists of rows, and what `eliminate` answers.
+--     clearAt k j e x, clear b e x     x, with e added if x has bit j of word k; bit b
 --     top f n             one more than the highest place below n at which f holds, or 0
 --     lead c x            one more than the highest coefficient of x, of 64 c; 0 where it has none
 --     Sys, sys            the equations, the rows that are only reduced, and how many pivots were found
@@ -6,16 +7,23 @@
 --     solve c e r         every equation in turn
 --     fits c w e r        whether the words are whole rows with c words of coefficients
 --     Done, done, solved  all that a call leaves: its words and its answer
-use Prim.Native.Nat.{ℕ, zero, suc, _+_, _*_, _%_}
+use Prim.Native.Nat.{ℕ, zero, suc, _+_, _*_, _/_, _%_}
 use mathlib.Core.Bool.{Bool, _&&_, not}
-use mathlib.Core.List.{List, map}
+use mathlib.Core.List.{List, map, flatten}
 use lib.ListN.{length, set}
 use lib.Dec.{ltb, eqb}
 use Rattle.bits.specs.Vectors.{pick}
-use Rattle.bits.specs.Rows.{Row}
-use Rattle.gf2.specs.Rows.{has, clear, rowsOf, flat, at}
+use Rattle.bits.specs.Rows.{Row, _⊻_, hasAt, has, rowsOf, at}
 use Rattle.gf2.specs.declared.Outcome.{Outcome}
 use Rattle.gf2.specs.declared.Outcome.the-variants.{Misfit, Rank}
+
+-- x, with e added if x has bit j of word k
+unfoldable pub clearAt : ℕ → ℕ → Row → Row → Row
+clearAt k j e x = pick (hasAt k j x) (x ⊻ e) x
+
+-- x, with e added if x has bit b
+abbrev pub clear : ℕ → Row → Row → Row
+clear b e x = clearAt (b / 64) (b % 64) e x
 
 -- one more than the highest b below n at which f holds, or 0
 unfoldable pub top : (ℕ → Bool) → ℕ → ℕ
@@ -76,4 +84,4 @@ unfoldable pub solved : ℕ → ℕ → List ℕ → List ℕ → Done
 unfolding fits
 solved c w e r =
     let s = solve c (rowsOf w e) (rowsOf w r) in
-    pick (fits c w e r) (done (flat (s .eqs)) (flat (s .rest)) (Rank (s .rank))) (done e r Misfit)
+    pick (fits c w e r) (done (flatten (s .eqs)) (flatten (s .rest)) (Rank (s .rank))) (done e r Misfit)

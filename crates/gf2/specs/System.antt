@@ -1,6 +1,6 @@
 -- What the laws are stated with: forms on rows, solutions, free unknowns, sums of rows, assignments packed into words.
 -- The unknowns are z 0, z 1, ..; unknown b is coefficient b. κ gives a row's constant, such as one bit of what rides along.
---     Each P e, Wide w e        every row of e is P; is w words wide
+--     Each P e                  every row of e is P
 --     Hom Λ, vanishes Λ e       Λ takes XOR to XOR; Λ is 0 on every row of e
 --     led c x, Within c g e     x has a coefficient; no row of e has one at or above g
 --     dot, value, solves        the sum of a row's unknowns at z; with its constant; whether z solves all equations
@@ -19,8 +19,7 @@ use lib.ListN.{length, getD, set, replicate}
 use lib.Dec.{eqb}
 use Rattle.bits.specs.Vectors.{_⊕_, pick, all}
 use Rattle.bits.specs.Words.{oddOf, wordBits}
-use Rattle.bits.specs.Rows.{Row, _⊻_}
-use Rattle.gf2.specs.Rows.{has, at}
+use Rattle.bits.specs.Rows.{Row, _⊻_, noughtRow, has, at}
 use Rattle.gf2.specs.Solve.{lead}
 
 -- ---- rows
@@ -28,10 +27,6 @@ use Rattle.gf2.specs.Solve.{lead}
 -- every row is P
 abbrev pub Each : (Row → Type 0) → List Row → Type 0
 Each P e = (i : ℕ) → i < length e → P (at e i)
-
--- every row has w words
-abbrev pub Wide : ℕ → List Row → Type 0
-Wide w e = Each (λ x. length x ≡ w) e
 
 -- whether a row has a coefficient
 abbrev pub led : ℕ → Row → Bool
@@ -118,13 +113,9 @@ unit g b = set (replicate g false) b true
 
 -- ---- sums of rows
 
--- the row of w zeros
-abbrev pub zeroRow : ℕ → Row
-zeroRow w = replicate w 0
-
 -- the sum of the rows k of e at which f holds
 unfoldable pub sumOf : ℕ → List Row → (ℕ → Bool) → Row
-sumOf w [] f = zeroRow w
+sumOf w [] f = noughtRow w
 sumOf w (x ∷ e) f = let s = sumOf w e (λ (k : ℕ). f (suc k)) in pick (f 0) (x ⊻ s) s
 
 -- the rows k that bits o, o + 1, .. of x name

@@ -1,13 +1,11 @@
-// The elimination itself, on slices whose shapes fit: a row's highest word, rows added, rows swept, each equation in turn.
+// The elimination itself, on slices whose shapes fit: a row's highest word, rows swept, each equation in turn.
 ghost use mathlib.Core.Path.{_≡_};
 ghost use mathlib.Core.Logic.{_⊎_};
 ghost use Prim.Native.Nat.{_+_, _*_, _≤_, _<_};
 ghost use lib.ListN.{length, take, drop};
-ghost use lib.Seq.{paste};
 ghost use mathlib.Core.List.{_++_};
-ghost use Rattle.bits.specs.Rows.{_⊻_};
-ghost use Rattle.gf2.specs.Rows.{clearAt, rows};
-ghost use Rattle.gf2.specs.Solve.{top, sys, step, solve};
+ghost use Rattle.gf2.specs.Solve.{clearAt, top, sys, step, solve};
+ghost use Rattle.bits.specs.Rows.{rows};
 ghost use Rattle.gf2.specs.Inner.{used, over};
 
 // How many of the c words from `at` on there are up to the last that is not 0.
@@ -25,31 +23,6 @@ fn words(v: &[u64], at: usize, c: usize) -> usize
     0
 }
 
-// Adds the row at `from` to the row at `to`; the two do not overlap.
-fn add_within(v: &mut [u64], to: usize, from: usize, w: usize)
-    requires { ⌜ (to + w ≤ length (now v)) × (from + w ≤ length (now v)) ⌝ }
-    requires { ⌜ ((to + w ≤ from) ⊎ (from + w ≤ to)) ⌝ }
-    ensures { λ _. ⌜ now (v .exit) ≡ paste (now (v .entry)) to (take w (drop to (now (v .entry))) ⊻ take w (drop from (now (v .entry)))) w ⌝ }
-{
-    let mut k = 0;
-    while k < w {
-        v[to + k] = v[to + k] ^ v[from + k];
-        k += 1;
-    }
-}
-
-// Adds the row of `src` at `from` to the row of `dst` at `to`.
-fn add_across(dst: &mut [u64], to: usize, src: &[u64], from: usize, w: usize)
-    requires { ⌜ (to + w ≤ length (now dst)) × (from + w ≤ length (now src)) ⌝ }
-    ensures { λ _. ⌜ now (dst .exit) ≡ paste (now (dst .entry)) to (take w (drop to (now (dst .entry))) ⊻ take w (drop from (now (src .entry)))) w ⌝ }
-{
-    let mut k = 0;
-    while k < w {
-        dst[to + k] = dst[to + k] ^ src[from + k];
-        k += 1;
-    }
-}
-
 // Adds the row at `from` to those of the n rows at `at` that have bit j of word k.
 fn sweep_within(v: &mut [u64], at: usize, n: usize, from: usize, w: usize, k: usize, j: u32)
     requires { ⌜ (at + n * w ≤ length (now v)) × (from + w ≤ length (now v)) × (k < w) × (j < 64) ⌝ }
@@ -60,7 +33,7 @@ fn sweep_within(v: &mut [u64], at: usize, n: usize, from: usize, w: usize, k: us
     let mut left = n;
     while left > 0 {
         if (v[a + k] >> j) % 2 == 1 {
-            add_within(v, a, from, w);
+            bits::rows::add_within(v, a, from, w);
         }
         a += w;
         left -= 1;
@@ -76,7 +49,7 @@ fn sweep_across(dst: &mut [u64], n: usize, src: &[u64], from: usize, w: usize, k
     let mut left = n;
     while left > 0 {
         if (dst[a + k] >> j) % 2 == 1 {
-            add_across(dst, a, src, from, w);
+            bits::rows::add(dst, a, src, from, w);
         }
         a += w;
         left -= 1;

@@ -4,11 +4,10 @@ use native.Mathlib.Omega.{arith}
 use mathlib.Core.Bool.{Bool, true, false}
 use mathlib.Core.List.{List, [], _∷_}
 use Rattle.bits.specs.Vectors.{pick}
-use Rattle.bits.specs.Rows.{Row, _⊻_}
-use Rattle.gf2.specs.Rows.{hasAt, has, clearAt, rows, at}
-use Rattle.gf2.specs.Solve.{top, pass, steps, solve}
+use Rattle.bits.specs.Rows.{Row, _⊻_, hasAt, has, at}
+use Rattle.gf2.specs.Solve.{clearAt, top, pass, steps, solve}
 use Rattle.gf2.specs.System.{consistent}
-use Rattle.gf2.proofs.Rows.{has-⊻}
+use Rattle.bits.proofs.RowXor.{has-⊻}
 use Rattle.gf2.proofs.Leads.{lead-le}
 use Rattle.gf2.proofs.Solutions.{after, solvable}
 use Rattle.solve.specs.Verdicts.{verdictOf}
@@ -35,11 +34,11 @@ contradiction-left = refl
 -- ---- the verdicts
 
 pub sound-is : verdictOf 2 3 (1 ∷ 1 ∷ 1 ∷ 0 ∷ 2 ∷ 1 ∷ []) ≡ Solvable
-unfolding verdictOf sound rows
+unfolding verdictOf sound
 sound-is = ap (λ (b : Bool). pick b Solvable Not) (solvable 2 sound [] (has 128) (has-⊻ 128) 128 (omega arith) (λ i l. lead-le 2 (at sound i)) ∙ sound-left)
 
 pub contradiction-is : verdictOf 1 2 (3 ∷ 1 ∷ 6 ∷ 0 ∷ 5 ∷ 0 ∷ []) ≡ Not
-unfolding verdictOf contradiction rows
+unfolding verdictOf contradiction
 contradiction-is = ap (λ (b : Bool). pick b Solvable Not) (solvable 1 contradiction [] (has 64) (has-⊻ 64) 64 (omega arith) (λ i l. lead-le 1 (at contradiction i)) ∙ contradiction-left)
 
 pub no-constant-is : verdictOf 2 2 (3 ∷ 1 ∷ []) ≡ Misfit

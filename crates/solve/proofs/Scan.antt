@@ -14,11 +14,11 @@ use lib.Seq.{drop-drop}
 use lib.Dec.{eqb}
 use borrow.Author.Tests.{eq-eqb, ne-eqb, eqb-true}
 use Rattle.bits.specs.Vectors.{all}
-use Rattle.bits.proofs.Tests.{all-fails, all-next, all-end, all-at, at-all, not-both}
-use Rattle.gf2.specs.Rows.{hasAt, has, rows}
+use Rattle.bits.proofs.Tests.{all-fails, all-next, all-end, all-at, at-all, not-both, or-true}
+use Rattle.bits.specs.Rows.{hasAt, has, rows}
 use Rattle.gf2.specs.Solve.{lead}
 use Rattle.gf2.specs.System.{led, consistent}
-use Rattle.gf2.proofs.Cut.{length-part, getD-part}
+use Rattle.bits.proofs.RowLaws.{length-part, getD-part, rows-suc}
 use Rattle.gf2.proofs.Reduced.{no-words, zero-words}
 use Rattle.solve.specs.Verdicts.{isZero}
 
@@ -66,9 +66,10 @@ constant v a c w h =
 
 one-row : (v : List ℕ) (a c w n : ℕ) → 0 < n → consistent c (has (64 * c)) (rows w n (drop a v))
     ≡ (led c (take w (drop a v)) || not (has (64 * c) (take w (drop a v)))) && consistent c (has (64 * c)) (rows w (n - 1) (drop (a + w) v))
-unfolding rows
 one-row v a c w zero h = absurd (omega arith)
-one-row v a c w (suc n) h = let s : suc n - 1 ≡ n = omega arith in rw (s, drop-drop w a v) refl
+one-row v a c w (suc n) h =
+    let s : suc n - 1 ≡ n = omega arith in
+    ap (consistent c (has (64 * c))) (rows-suc w n (drop a v)) ∙ rw (s, drop-drop w a v) refl
 
 pub row-bad : (v : List ℕ) (a c w n : ℕ) → 0 < n → c < w → a + w ≤ length v → all isZero (take c (drop a v)) ≡ true → getD v (a + c) 0 % 2 ≡ 1
     → consistent c (has (64 * c)) (rows w n (drop a v)) ≡ false
@@ -83,14 +84,9 @@ pub row-good : (v : List ℕ) (a c w n : ℕ) → 0 < n → c < w → a + w ≤ 
 row-good v a c w n h l m f d =
     sym (one-row v a c w n h ∙ ap (λ (x : Bool). x && consistent c (has (64 * c)) (rows w (n - 1) (drop (a + w) v))) (go d))
   where
-    or-true : (x : Bool) → x || true ≡ true
-    or-true true = refl
-    or-true false = refl
-
     go : (getD v (a + c) 0 % 2 ≡ 1 → ⊥) ⊎ (all isZero (take c (drop a v)) ≡ false) → led c (take w (drop a v)) || not (has (64 * c) (take w (drop a v))) ≡ true
     go (inl o) = ap (λ (y : Bool). led c (take w (drop a v)) || not y) (constant v a c w l ∙ ne-eqb (getD v (a + c) 0 % 2) 1 o) ∙ or-true (led c (take w (drop a v)))
     go (inr b) = ap (λ (x : Bool). x || not (has (64 * c) (take w (drop a v)))) (led-blank v a c (omega arith) w (omega arith) f b)
 
 pub rows-none : (c w n : ℕ) (l : List ℕ) → n ≡ 0 → consistent c (has (64 * c)) (rows w n l) ≡ true
-unfolding rows
 rows-none c w n l e = rw e refl

@@ -10,14 +10,14 @@ use mathlib.Core.List.{List, []}
 use lib.ListN.{length}
 use lib.Dec.{eqb, ltb}
 use borrow.Author.Tests.{ne-eqb, lt-ltb, le-ltb}
+use Rattle.bits.proofs.Tests.{and-true}
 use Rattle.bits.specs.Vectors.{pick}
-use Rattle.bits.specs.Rows.{Row}
-use Rattle.gf2.specs.Rows.{has, rows, rowsOf, at}
+use Rattle.bits.specs.Rows.{Row, has, rowsOf, at}
 use Rattle.gf2.specs.Solve.{solve, done, fits, solved}
 use Rattle.gf2.specs.System.{consistent}
 use Rattle.gf2.specs.declared.Outcome.{Outcome}
 use Rattle.gf2.specs.declared.Outcome.the-variants.{Misfit as NoFit, Rank}
-use Rattle.gf2.proofs.Rows.{has-⊻}
+use Rattle.bits.proofs.RowXor.{has-⊻}
 use Rattle.gf2.proofs.Leads.{lead-le}
 use Rattle.gf2.proofs.Solutions.{solvable as solvable-is}
 use Rattle.gf2.proofs.Calls.{left, unfit, Fitting, fitting}
@@ -32,13 +32,8 @@ fits-is : (c w : ℕ) (e : List ℕ) → c < w → fits c w e [] ≡ eqb (length
 unfolding fits
 fits-is c w e h =
     rw (ne-eqb w 0 (λ (q : w ≡ 0). omega arith), le-ltb w c (omega arith), zero-mod w) (and-true (eqb (length e % w) 0))
-  where
-    and-true : (b : Bool) → b && true ≡ b
-    and-true true = refl
-    and-true false = refl
 
 no-rows : (w : ℕ) → rowsOf w [] ≡ []
-unfolding rows
 no-rows w = rw (zero-div w) refl
 
 module _ (c w : ℕ) (e e₁ r₁ : List ℕ) (o : Outcome) (cw : c < w) (h : done e₁ r₁ o ≡ solved c w e []) where

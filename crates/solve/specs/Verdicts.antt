@@ -9,7 +9,7 @@ use mathlib.Core.List.{List}
 use lib.ListN.{length}
 use lib.Dec.{eqb, ltb}
 use Rattle.bits.specs.Vectors.{pick, any, allBits}
-use Rattle.gf2.specs.Rows.{has, rowsOf}
+use Rattle.bits.specs.Rows.{has, rowsOf}
 use Rattle.gf2.specs.System.{solves}
 use Rattle.solve.specs.declared.verdict.Verdict.{Verdict}
 use Rattle.solve.specs.declared.verdict.Verdict.the-variants.{Misfit, Solvable, Not}

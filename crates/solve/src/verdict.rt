@@ -4,7 +4,7 @@ ghost use mathlib.Core.Path.{_≡_};
 ghost use Prim.Native.Nat.{_+_, _*_, _≤_, _<_};
 ghost use lib.ListN.{length, take, drop};
 ghost use Rattle.bits.specs.Vectors.{all};
-ghost use Rattle.gf2.specs.Rows.{has, rows};
+ghost use Rattle.bits.specs.Rows.{has, rows};
 ghost use Rattle.gf2.specs.System.{consistent};
 ghost use Rattle.solve.specs.Verdicts.{isZero, verdictOf};
 use gf2::Outcome;

@@ -2,8 +2,9 @@
 use mathlib.Core.Path.{_∙_}
 use native.Mathlib.Omega.{arith}
 use lib.ListN.{length}
-use Rattle.gf2.proofs.Glue.{misfit, no-width, too-many, odd-eqs, odd-rest, all-fit, fit-done}
-use Rattle.gf2.proofs.Cut.{whole-rows}
+use Rattle.gf2.proofs.Glue.{misfit, no-width, too-many, odd-eqs, odd-rest, fit-done}
+use Rattle.gf2.proofs.Calls.{all-fit}
+use Rattle.bits.proofs.RowLaws.{whole-rows}
 use borrow.Author.Needs.{needs}
 use Rattle.gf2.proofs.eliminate.Statement.{statement}
 use Rattle.gf2.proofs.eliminate.Tie as tie
@@ -18,38 +19,20 @@ returns-2 c =
     let A = c .before .before .before .before .args in
     misfit (A .c) (A .w) (A .eqs .now) (A .rest .now) (too-many (A .c) (A .w) (A .eqs .now) (A .rest .now) (c .before .if1 .left) (c .if2 .taken))
 
-rem-if3 : tie.Need-rem-if3
-rem-if3 c = search needs
-
 returns-3 : tie.Need-returns-3
 returns-3 c =
     let A = c .before .before .before .before .before .args in
     misfit (A .c) (A .w) (A .eqs .now) (A .rest .now) (odd-eqs (A .c) (A .w) (A .eqs .now) (A .rest .now) (c .before .before .if1 .left) (c .before .if2 .left) (c .if3 .taken))
-
-rem-if4 : tie.Need-rem-if4
-rem-if4 c = search needs
 
 returns-4 : tie.Need-returns-4
 returns-4 c =
     let A = c .before .before .before .before .before .before .args in
     misfit (A .c) (A .w) (A .eqs .now) (A .rest .now) (odd-rest (A .c) (A .w) (A .eqs .now) (A .rest .now) (c .before .before .before .if1 .left) (c .before .before .if2 .left) (c .before .if3 .left) (c .if4 .taken))
 
-div-m : tie.Need-div-m
-div-m c = search needs
-
-div-q : tie.Need-div-q
-div-q c = search needs
-
 run-requires : tie.Need-run-requires
 run-requires c κs =
     let A = c .before .before .before .before .before .before .before .before .args in
     (whole-rows (length (A .eqs .now)) (A .w) (c .before .before .before .if3 .left), whole-rows (length (A .rest .now)) (A .w) (c .before .before .if4 .left), omega arith, omega (arith, c .before .before .before .before .before .if1 .left))
-
-same-length : tie.Need-same-length
-same-length c = search needs
-
-same-length-2 : tie.Need-same-length-2
-same-length-2 c = search needs
 
 returns-5 : tie.Need-returns-5
 returns-5 c =
@@ -69,15 +52,5 @@ pub eliminate-spec : {M : Type 1} → statement M
 eliminate-spec =
     tie.close
     (tie.spec
-    returns
-    returns-2
-    rem-if3
-    returns-3
-    rem-if4
-    returns-4
-    div-m
-    div-q
-    run-requires
-    same-length
-    same-length-2
-    returns-5)
+    returns returns-2 (λ c. search needs) returns-3 (λ c. search needs) returns-4 (λ c. search needs) (λ c. search needs) run-requires (λ c. search needs)
+    (λ c. search needs) returns-5)

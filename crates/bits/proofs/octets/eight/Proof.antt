@@ -7,17 +7,11 @@ use Rattle.bits.proofs.octets.eight.Tie as tie
 returns : tie.Need-returns
 returns c = too-short _ _ (c .if1 .taken)
 
-sub-if2 : tie.Need-sub-if2
-sub-if2 c = search needs
-
 returns-2 : tie.Need-returns-2
 returns-2 c = too-far _ _ (c .if2 .taken)
-
-joined-requires : tie.Need-joined-requires
-joined-requires c κs = search needs
 
 returns-3 : tie.Need-returns-3
 returns-3 c = inside _ _ _ (omega arith) (c .joined .ensures)
 
 pub eight-spec : {M : Type 1} → statement M
-eight-spec = tie.close (tie.spec returns sub-if2 returns-2 joined-requires returns-3)
+eight-spec = tie.close (tie.spec returns (λ c. search needs) returns-2 (λ c κs. search needs) returns-3)

@@ -5,7 +5,9 @@ use lib.ListN.{length}
 use lib.Bits.{bitXor}
 use borrow.Author.Needs.{needs}
 use Rattle.bits.specs.Rows.{_⊻_, part}
-use Rattle.bits.proofs.RowLaws.{length-part, getD-part, length-⊻, getD-⊻, added-fits, added-out, added-out-of}
+use Rattle.bits.proofs.RowLaws.{length-part, getD-part}
+use Rattle.bits.proofs.RowXor.{length-⊻, getD-⊻}
+use Rattle.bits.proofs.RowsWritten.{added-fits, added-out, added-out-of}
 use Rattle.bits.proofs.Writing.{Pasted, pasted-none, pasted-next, pasted-all, still, lies-room, lies-not}
 use Rattle.bits.proofs.rows.add.Statement.{statement}
 use Rattle.bits.proofs.rows.add.Tie as tie

@@ -6,7 +6,9 @@ use lib.Bits.{bitXor}
 use borrow.Author.Tests.{not-true}
 use borrow.Author.Needs.{needs}
 use Rattle.bits.specs.Rows.{_⊻_, part}
-use Rattle.bits.proofs.RowLaws.{Apart, length-part, length-⊻, getD-⊻, addedWithin-fits, addedWithin-out}
+use Rattle.bits.proofs.RowLaws.{Apart, length-part}
+use Rattle.bits.proofs.RowXor.{length-⊻, getD-⊻}
+use Rattle.bits.proofs.RowsWritten.{addedWithin-fits, addedWithin-out}
 use Rattle.bits.proofs.Writing.{Pasted, pasted-none, pasted-next, pasted-all, still, elsewhere, apart-room}
 use Rattle.bits.proofs.rows.add_within.Statement.{statement}
 use Rattle.bits.proofs.rows.add_within.Tie as tie

@@ -4,14 +4,8 @@ use Rattle.bits.proofs.Writing.{lies-room, lies-not, apart-first, apart
 use Rattle.bits.proofs.rows.apart.Statement.{statement}
 use Rattle.bits.proofs.rows.apart.Tie as tie
 
-lies-requires : tie.Need-lies-requires
-lies-requires c κs = search needs
-
 returns : tie.Need-returns
 returns c = apart-first _ _ _ _ (lies-not _ _ _ (c .before .lies .ensures) (c .if1 .taken))
-
-lies-requires-2 : tie.Need-lies-requires-2
-lies-requires-2 c κs = search needs
 
 returns-2 : tie.Need-returns-2
 returns-2 c = apart-second _ _ _ _ (lies-not _ _ _ (c .before .lies2 .ensures) (c .if2 .taken))
@@ -39,6 +33,4 @@ returns-4 c =
     apart-right _ _ _ _ (lies-room _ _ _ (first .before .lies .ensures) (first .if1 .left)) (lies-room _ _ _ (second .before .lies2 .ensures) (second .if2 .left)) (c .if3 .left)
 
 pub apart-spec : {M : Type 1} → statement M
-apart-spec =
-    tie.close
-    (tie.spec lies-requires returns lies-requires-2 returns-2 add-if3 add-result returns-3 returns-4)
+apart-spec = tie.close (tie.spec (λ c κs. search needs) returns (λ c κs. search needs) returns-2 add-if3 add-result returns-3 returns-4)

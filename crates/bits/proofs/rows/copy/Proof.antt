@@ -4,7 +4,8 @@ use native.Mathlib.Omega.{arith}
 use lib.ListN.{length}
 use borrow.Author.Needs.{needs}
 use Rattle.bits.specs.Rows.{part}
-use Rattle.bits.proofs.RowLaws.{length-part, getD-part, copied-fits, copied-out, copied-out-of}
+use Rattle.bits.proofs.RowLaws.{length-part, getD-part}
+use Rattle.bits.proofs.RowsWritten.{copied-fits, copied-out, copied-out-of}
 use Rattle.bits.proofs.Writing.{Pasted, pasted-none, pasted-next, pasted-all, lies-room, lies-not}
 use Rattle.bits.proofs.rows.copy.Statement.{statement}
 use Rattle.bits.proofs.rows.copy.Tie as tie

@@ -5,7 +5,8 @@ use lib.ListN.{length}
 use borrow.Author.Tests.{not-true}
 use borrow.Author.Needs.{needs}
 use Rattle.bits.specs.Rows.{part}
-use Rattle.bits.proofs.RowLaws.{Apart, length-part, copiedWithin-fits, copiedWithin-out}
+use Rattle.bits.proofs.RowLaws.{Apart, length-part}
+use Rattle.bits.proofs.RowsWritten.{copiedWithin-fits, copiedWithin-out}
 use Rattle.bits.proofs.Writing.{Pasted, pasted-none, pasted-next, pasted-all, elsewhere, apart-room}
 use Rattle.bits.proofs.rows.copy_within.Statement.{statement}
 use Rattle.bits.proofs.rows.copy_within.Tie as tie

@@ -3,7 +3,7 @@ use Prim.Native.Nat.{_-_}
 use native.Mathlib.Omega.{arith}
 use lib.ListN.{replicate, length-replicate, getD-replicate}
 use borrow.Author.Needs.{needs}
-use Rattle.bits.proofs.RowLaws.{zeroed-fits, zeroed-out}
+use Rattle.bits.proofs.RowsWritten.{zeroed-fits, zeroed-out}
 use Rattle.bits.proofs.Writing.{Pasted, pasted-none, pasted-next, pasted-all, lies-room, lies-not}
 use Rattle.bits.proofs.rows.zero.Statement.{statement}
 use Rattle.bits.proofs.rows.zero.Tie as tie

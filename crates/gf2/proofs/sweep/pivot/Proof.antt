@@ -7,9 +7,8 @@ use lib.ListN.{getD}
 use lib.Count.{leadingZeros}
 use Rattle.gf2.specs.Inner.{used}
 use Rattle.gf2.proofs.Leads.{top-le}
-use Rattle.gf2.proofs.Cut.{cut}
 use Rattle.gf2.proofs.Highest.{last-zeros}
-use Rattle.gf2.proofs.Glue.{step-none, step-some}
+use Rattle.gf2.proofs.Glue.{cut, step-none, step-some}
 use borrow.Author.Needs.{needs}
 use Rattle.gf2.proofs.sweep.pivot.Statement.{statement}
 use Rattle.gf2.proofs.sweep.pivot.Tie as tie
@@ -26,9 +25,6 @@ words-requires c κs =
     let p = cut (A .m) (A .i) (A .w) (omega arith) in
     omega arith
 
-same-length : tie.Need-same-length
-same-length c = search needs
-
 returns : tie.Need-returns
 returns c =
     let A = c .before .before .before .before .before .args in
@@ -42,9 +38,6 @@ add-j c =
     let q = top-le (used (A .eqs .now) (A .i * A .w)) (A .c) in
     let e = c .before .words .ensures in
     omega arith
-
-sub-j : tie.Need-sub-j
-sub-j c = search needs
 
 mul-j : tie.Need-mul-j
 mul-j c =
@@ -68,9 +61,6 @@ sub-j-2 c =
     let k = c .before .before .words .result in
     last-zeros (A .eqs .now) (A .i * A .w) (A .c) (A .w) (c .before .before .before .before .before .before .pre .3) k (sym (c .before .before .words .ensures)) (c .before .if1 .left) (c .slice-known3 .given (A .i * A .w + k - 1) .fits)
 
-sub-sweep-within : tie.Need-sub-sweep-within
-sub-sweep-within c = search needs
-
 sweep-within-requires : tie.Need-sweep-within-requires
 sweep-within-requires c κs =
     let A = c .before .before .before .before .before .before .before .args in
@@ -85,15 +75,6 @@ add-sweep-within c =
     let p = cut (A .m) (A .i) (A .w) (omega arith) in
     omega arith
 
-sub-sweep-within-2 : tie.Need-sub-sweep-within-2
-sub-sweep-within-2 c = search needs
-
-sub-sweep-within-3 : tie.Need-sub-sweep-within-3
-sub-sweep-within-3 c = search needs
-
-sub-sweep-within-4 : tie.Need-sub-sweep-within-4
-sub-sweep-within-4 c = search needs
-
 sweep-within-requires-2 : tie.Need-sweep-within-requires-2
 sweep-within-requires-2 c κs =
     let A = c .before .before .before .before .before .before .before .before .before .before .before .args in
@@ -102,9 +83,6 @@ sweep-within-requires-2 c κs =
     let e = c .before .before .before .before .before .before .before .words .ensures in
     let n = c .before .before .before .sweep-within .kept .0 in
     ((omega arith, omega arith, omega arith, omega arith), inr (omega arith))
-
-sub-sweep-across : tie.Need-sub-sweep-across
-sub-sweep-across c = search needs
 
 sweep-across-requires : tie.Need-sweep-across-requires
 sweep-across-requires c κs =
@@ -115,15 +93,6 @@ sweep-across-requires c κs =
     let n = c .before .before .before .before .before .before .before .before .sweep-within .kept .0 in
     let o = c .before .before .before .before .sweep-within2 .kept .0 in
     (omega arith, omega arith, omega arith, omega arith)
-
-add-result : tie.Need-add-result
-add-result c = search needs
-
-same-length-2 : tie.Need-same-length-2
-same-length-2 c = search needs
-
-same-length-3 : tie.Need-same-length-3
-same-length-3 c = search needs
 
 returns-2 : tie.Need-returns-2
 returns-2 c =
@@ -145,25 +114,6 @@ pub pivot-spec : {M : Type 1} → statement M
 pivot-spec =
     tie.close
     (tie.spec
-    mul-at
-    words-requires
-    same-length
-    returns
-    add-j
-    sub-j
-    mul-j
-    slice-read-j
-    sub-j-2
-    sub-sweep-within
-    sweep-within-requires
-    add-sweep-within
-    sub-sweep-within-2
-    sub-sweep-within-3
-    sub-sweep-within-4
-    sweep-within-requires-2
-    sub-sweep-across
-    sweep-across-requires
-    add-result
-    same-length-2
-    same-length-3
-    returns-2)
+    mul-at words-requires (λ c. search needs) returns add-j (λ c. search needs) mul-j slice-read-j sub-j-2 (λ c. search needs) sweep-within-requires
+    add-sweep-within (λ c. search needs) (λ c. search needs) (λ c. search needs) sweep-within-requires-2 (λ c. search needs) sweep-across-requires
+    (λ c. search needs) (λ c. search needs) (λ c. search needs) returns-2)

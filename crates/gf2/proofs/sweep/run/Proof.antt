@@ -4,7 +4,7 @@ use Prim.Native.Nat.{ℕ, _≤_, _-_}
 use native.Mathlib.Omega.{arith}
 use lib.ListN.{length}
 use borrow.Author.Needs.{needs}
-use Rattle.gf2.specs.Rows.{rows}
+use Rattle.bits.specs.Rows.{rows}
 use Rattle.gf2.specs.Solve.{Sys, sys, steps}
 use Rattle.gf2.proofs.Glue.{steps-turn, rank-step, all-steps}
 use Rattle.gf2.proofs.sweep.run.Statement.{statement}

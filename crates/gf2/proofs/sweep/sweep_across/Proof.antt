@@ -4,10 +4,11 @@ use mathlib.Core.Logic.{inl, inr, ⊎-elim}
 use Prim.Native.Nat.{_+_, _*_, _≤_}
 use native.Mathlib.Omega.{arith}
 use lib.ListN.{length, take, drop}
-use Rattle.gf2.specs.Rows.{clearAt}
+use Rattle.gf2.specs.Solve.{clearAt}
 use Rattle.gf2.specs.Inner.{over}
+use Rattle.bits.proofs.RowsWritten.{added-fits}
 use Rattle.gf2.proofs.Walk.{togo, Turn, turn-length, turn-togo, togo-none}
-use Rattle.gf2.proofs.Cut.{length-part, pred-mul}
+use Rattle.bits.proofs.RowLaws.{length-part, pred-mul}
 use borrow.Author.Needs.{needs}
 use Rattle.gf2.proofs.sweep.sweep_across.Statement.{statement}
 use Rattle.gf2.proofs.sweep.sweep_across.Tie as tie
@@ -22,7 +23,12 @@ abbrev μ-loop : tie.MeasureT-loop
 
 -- by which arm, in the lists' terms
 turned : (c : tie.Joined1 Inv-loop μ-loop) → Turn (c .before .before .before .loop .dst) (c .if1 .dst) (take (c .before .before .before .before .before .before .args .w) (drop (c .before .before .before .before .before .before .args .from) (c .before .before .before .before .before .before .args .src .now))) (c .before .before .before .loop .a) (c .before .before .before .before .before .before .args .w) (c .before .before .before .before .before .before .args .k) (c .before .before .before .before .before .before .args .j)
-turned c = ⊎-elim (λ t. inl (t .0 .taken, t .5 ∙ t .2 .ensures)) (λ t. inr (t .0 .left, t .1)) (c .if1 .came)
+turned c =
+    let A = c .before .before .before .before .before .before .args in
+    let L = c .before .before .before .loop in
+    let p = pred-mul (L .left) (A .w) (omega arith) in
+    let fits = added-fits (L .dst) (L .a) (A .src .now) (A .from) (A .w) (omega arith) (omega arith) in
+    ⊎-elim (λ t. inl (t .0 .taken, t .5 ∙ t .2 .ensures ∙ fits)) (λ t. inr (t .0 .left, t .1)) (c .if1 .came)
 
 loop-holds : tie.Need-loop-holds Inv-loop μ-loop
 loop-holds c =
@@ -40,10 +46,8 @@ slice-read-if1 c = let p = pred-mul (c .before .before .loop .left) (c .before .
 shr-if1 : tie.Need-shr-if1 Inv-loop μ-loop
 shr-if1 c = search needs
 
-add-across-requires : tie.Need-add-across-requires Inv-loop μ-loop
-add-across-requires c κs =
-    let p = pred-mul (c .before .before .before .before .loop .left) (c .before .before .before .before .before .before .before .args .w) (omega arith) in
-    (omega arith, omega arith)
+add-requires : tie.Need-add-requires Inv-loop μ-loop
+add-requires c κs = search needs
 
 add-a : tie.Need-add-a Inv-loop μ-loop
 add-a c = let p = pred-mul (c .before .before .before .loop .left) (c .before .before .before .before .before .before .args .w) (omega arith) in omega arith
@@ -88,7 +92,7 @@ sweep-across-spec =
     mul-if1
     slice-read-if1
     shr-if1
-    add-across-requires
+    add-requires
     add-a
     sub-left
     loop-less

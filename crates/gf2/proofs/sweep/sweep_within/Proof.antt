@@ -5,9 +5,10 @@ use Prim.Native.Nat.{_+_, _*_, _≤_}
 use native.Mathlib.Omega.{arith}
 use lib.ListN.{length, take, drop}
 use Rattle.bits.specs.Rows.{Row, _⊻_}
-use Rattle.gf2.specs.Rows.{clearAt}
+use Rattle.gf2.specs.Solve.{clearAt}
+use Rattle.bits.proofs.RowsWritten.{addedWithin-fits}
 use Rattle.gf2.proofs.Walk.{togo, Turn, turn-length, turn-togo, turn-apart, apart-first, apart-next, togo-none}
-use Rattle.gf2.proofs.Cut.{length-part, pred-mul}
+use Rattle.bits.proofs.RowLaws.{length-part, pred-mul}
 use borrow.Author.Needs.{needs}
 use Rattle.gf2.proofs.sweep.sweep_within.Statement.{statement}
 use Rattle.gf2.proofs.sweep.sweep_within.Tie as tie
@@ -25,7 +26,13 @@ turned : (c : tie.Joined1 Inv-loop μ-loop) → Turn (c .before .before .before 
 turned c =
     let A = c .before .before .before .before .before .args in
     let L = c .before .before .before .loop in
-    ⊎-elim (λ t. inl (t .0 .taken, t .5 ∙ t .2 .ensures ∙ ap (λ (e : Row). lib.Seq.paste (L .v) (L .a) (take (A .w) (drop (L .a) (L .v)) ⊻ e) (A .w)) (L .inv .4))) (λ t. inr (t .0 .left, t .1)) (c .if1 .came)
+    let p = pred-mul (L .left) (A .w) (omega arith) in
+    let apart = apart-first (L .a) (L .left) (A .w) (A .from) (omega arith) (L .inv .3) in
+    ⊎-elim (λ t. inl (
+      t .0 .taken,
+      t .5 ∙ t .2 .ensures ∙ addedWithin-fits (L .v) (L .a) (A .from) (A .w) (omega arith) (omega arith) apart
+          ∙ ap (λ (e : Row). lib.Seq.paste (L .v) (L .a) (take (A .w) (drop (L .a) (L .v)) ⊻ e) (A .w)) (L .inv .4),
+    )) (λ t. inr (t .0 .left, t .1)) (c .if1 .came)
 
 loop-holds : tie.Need-loop-holds Inv-loop μ-loop
 loop-holds c =
@@ -44,10 +51,7 @@ shr-if1 : tie.Need-shr-if1 Inv-loop μ-loop
 shr-if1 c = search needs
 
 add-within-requires : tie.Need-add-within-requires Inv-loop μ-loop
-add-within-requires c κs =
-    let L = c .before .before .before .before .loop in
-    let p = pred-mul (L .left) (c .before .before .before .before .before .before .args .w) (omega arith) in
-    ((omega arith, omega arith), apart-first (L .a) (L .left) (c .before .before .before .before .before .before .args .w) (c .before .before .before .before .before .before .args .from) (omega arith) (L .inv .3))
+add-within-requires c κs = search needs
 
 add-a : tie.Need-add-a Inv-loop μ-loop
 add-a c = let p = pred-mul (c .before .before .before .loop .left) (c .before .before .before .before .before .args .w) (omega arith) in omega arith

@@ -4,31 +4,5 @@ use Rattle.solve.proofs.Answers.{misfit-is}
 use Rattle.solve.proofs.held.misfit.Statement.{statement}
 use Rattle.solve.proofs.held.misfit.Tie as tie
 
-slice-aggregate-hold : tie.Need-slice-aggregate-hold
-slice-aggregate-hold c = refl
-
-slice-aggregate-hold-2 : tie.Need-slice-aggregate-hold-2
-slice-aggregate-hold-2 c = refl
-
-slice-aggregate-hold-3 : tie.Need-slice-aggregate-hold-3
-slice-aggregate-hold-3 c = refl
-
-slice-aggregate-hold-4 : tie.Need-slice-aggregate-hold-4
-slice-aggregate-hold-4 c = refl
-
-hold-requires : tie.Need-hold-requires
-hold-requires c κs = misfit-is
-
-returns : tie.Need-returns
-returns c = tt
-
 pub misfit-spec : {M : Type 1} → statement M
-misfit-spec =
-    tie.close
-    (tie.spec
-    slice-aggregate-hold
-    slice-aggregate-hold-2
-    slice-aggregate-hold-3
-    slice-aggregate-hold-4
-    hold-requires
-    returns)
+misfit-spec = tie.close (tie.spec (λ c. refl) (λ c. refl) (λ c. refl) (λ c. refl) (λ c κs. misfit-is) (λ c. tt))

@@ -4,31 +4,5 @@ use Rattle.solve.proofs.Answers.{wide-is}
 use Rattle.solve.proofs.held.wide.Statement.{statement}
 use Rattle.solve.proofs.held.wide.Tie as tie
 
-slice-aggregate-hold : tie.Need-slice-aggregate-hold
-slice-aggregate-hold c = refl
-
-slice-aggregate-hold-2 : tie.Need-slice-aggregate-hold-2
-slice-aggregate-hold-2 c = refl
-
-slice-aggregate-hold-3 : tie.Need-slice-aggregate-hold-3
-slice-aggregate-hold-3 c = refl
-
-slice-aggregate-hold-4 : tie.Need-slice-aggregate-hold-4
-slice-aggregate-hold-4 c = refl
-
-hold-requires : tie.Need-hold-requires
-hold-requires c κs = wide-is
-
-returns : tie.Need-returns
-returns c = tt
-
 pub wide-spec : {M : Type 1} → statement M
-wide-spec =
-    tie.close
-    (tie.spec
-    slice-aggregate-hold
-    slice-aggregate-hold-2
-    slice-aggregate-hold-3
-    slice-aggregate-hold-4
-    hold-requires
-    returns)
+wide-spec = tie.close (tie.spec (λ c. refl) (λ c. refl) (λ c. refl) (λ c. refl) (λ c κs. wide-is) (λ c. tt))

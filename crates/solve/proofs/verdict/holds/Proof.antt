@@ -5,9 +5,9 @@ use Prim.Native.Nat.{_+_, _*_, _≤_}
 use native.Mathlib.Omega.{arith}
 use borrow.Author.Needs.{needs}
 use lib.ListN.{length, drop}
-use Rattle.gf2.specs.Rows.{has, rows}
+use Rattle.bits.specs.Rows.{has, rows}
 use Rattle.gf2.specs.System.{consistent}
-use Rattle.gf2.proofs.Cut.{pred-mul}
+use Rattle.bits.proofs.RowLaws.{pred-mul}
 use Rattle.solve.proofs.Scan.{row-bad, row-good, rows-none}
 use Rattle.solve.proofs.verdict.holds.Statement.{statement}
 use Rattle.solve.proofs.verdict.holds.Tie as tie

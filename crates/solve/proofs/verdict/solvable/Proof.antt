@@ -10,23 +10,8 @@ use Rattle.solve.proofs.verdict.solvable.Tie as tie
 returns : tie.Need-returns
 returns c = too-narrow (c .before .before .args .c) (c .before .before .args .w) (c .before .before .args .eqs .now) (c .if1 .taken)
 
-array-borrow-prefix-none : tie.Need-array-borrow-prefix-none
-array-borrow-prefix-none c = search needs
-
-slice-aggregate-eliminate : tie.Need-slice-aggregate-eliminate
-slice-aggregate-eliminate c = search needs
-
-eliminate-requires : tie.Need-eliminate-requires
-eliminate-requires c κs = search needs
-
 enum-told : tie.Need-enum-told
 enum-told c = search needs
-
-enum-told-2 : tie.Need-enum-told-2
-enum-told-2 c = search needs
-
-div-holds : tie.Need-div-holds
-div-holds c = search needs
 
 holds-requires : tie.Need-holds-requires
 holds-requires c κs =
@@ -39,9 +24,6 @@ holds-requires c κs =
     let l = test .if1 .left in
     (kept-len (A .c) (A .w) (A .eqs .now) (E .last .0) (E .last .1 .0) (E .result) (omega arith) (E .ensures) (g .0 .0) (g .1) (E .kept .0), omega arith)
 
-same-length : tie.Need-same-length
-same-length c = search needs
-
 returns-2 : tie.Need-returns-2
 returns-2 c =
     let call = c .before .before .before .before .before in
@@ -50,9 +32,6 @@ returns-2 c =
     let E = call .eliminate in
     let l = test .if1 .left in
     no-fit (A .c) (A .w) (A .eqs .now) (E .last .0) (E .last .1 .0) (E .result) (omega arith) (E .ensures) (c .enum-told .given .1)
-
-same-length-2 : tie.Need-same-length-2
-same-length-2 c = search needs
 
 returns-3 : tie.Need-returns-3
 returns-3 c =
@@ -64,9 +43,6 @@ returns-3 c =
     let g = told .enum-told2 .given in
     let l = test .if1 .left in
     verdict (A .c) (A .w) (A .eqs .now) (E .last .0) (E .last .1 .0) (E .result) (omega arith) (E .ensures) (g .0 .0) (g .1) true (sym (c .if2 .taken) ∙ c .before .holds .ensures)
-
-same-length-3 : tie.Need-same-length-3
-same-length-3 c = search needs
 
 returns-4 : tie.Need-returns-4
 returns-4 c =
@@ -83,17 +59,5 @@ pub solvable-spec : {M : Type 1} → statement M
 solvable-spec =
     tie.close
     (tie.spec
-    returns
-    array-borrow-prefix-none
-    slice-aggregate-eliminate
-    eliminate-requires
-    enum-told
-    enum-told-2
-    div-holds
-    holds-requires
-    same-length
-    returns-2
-    same-length-2
-    returns-3
-    same-length-3
-    returns-4)
+    returns (λ c. search needs) (λ c. search needs) (λ c κs. search needs) enum-told (λ c. search needs) (λ c. search needs) holds-requires
+    (λ c. search needs) returns-2 (λ c. search needs) returns-3 (λ c. search needs) returns-4)
