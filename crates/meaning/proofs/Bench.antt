@@ -26,7 +26,7 @@ decodingBy : List Bool → ℕ → List ℕ → ℕ → ℕ → List ℕ → Lis
 decodingBy o n s r c w out =
     let ks = rules n s in
     let g = ones (openFree ks o) in
-    firstOf (leaving out) (formRefusals n s r c w out ++ ((ltb c g ⇒ TooMany g) ∷ [])) (verdict n g (ones (closedFrozen ks o) + r) (candidates n ks r w) out)
+    firstOf (leaving out) (formRefusals n s r c w (length out) ++ ((ltb c g ⇒ TooMany g) ∷ [])) (verdict n g (ones (closedFrozen ks o) + r) (candidates n ks r w) out)
 
 by-halves : (n : ℕ) (s : List ℕ) (r c : ℕ) (w out : List ℕ) → length w ≡ 2 ^ n → decoding n s r c w out ≡ decodingBy (opens n (map erased w)) n s r c w out
 unfolding decodingBy decoding decodeRefusals unknowns equations openAll

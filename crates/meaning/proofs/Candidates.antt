@@ -16,7 +16,7 @@ use Rattle.bits.proofs.Rising.{all-bits, bits-length, before-irr, before-trans,
 use Rattle.meaning.specs.Transform.{polar}
 use Rattle.meaning.specs.Sheet.{Rule}
 use Rattle.meaning.specs.Check.{keeps}
-use Rattle.meaning.specs.Codewords.{agrees, codewords, candidates, payloadOf, carrying}
+use Rattle.meaning.specs.Codewords.{agrees, codewords, candidates, payloadOf, carrying, Codeword, Agreeing}
 use Rattle.meaning.proofs.Polar.{length-polar, polar-polar}
 
 -- x comes before y: its u does
@@ -37,10 +37,6 @@ earlier-unique n l m p q h =
     rises-unique (Earlier n) (λ x. before-irr (polar n x)) (λ x y z. before-trans (polar n x) (polar n y) (polar n z)) l m p q (λ x. h x .0) (λ x. h x .1)
 
 -- ---- all codewords
-
--- x is the transform of a u that keeps every frozen rule and the check
-abbrev pub Codeword : ℕ → List Rule → ℕ → List Bool → Type 0
-Codeword n ks r x = (length x ≡ 2 ^ n) × (keeps ks r (polar n x) ≡ true)
 
 module _ (n : ℕ) (ks : List Rule) (r : ℕ) where
   pub codewords-rise : Rises (Earlier n) (codewords n ks r)
@@ -66,18 +62,14 @@ module _ (n : ℕ) (ks : List Rule) (r : ℕ) where
     unfolding candidates
     candidates-rise = rises-filter (Earlier n) (agrees w) (codewords n ks r) codewords-rise
 
-    -- x is a codeword that agrees
-    abbrev pub Agreeing : List Bool → Type 0
-    Agreeing x = Codeword n ks r x × (agrees w x ≡ true)
-
-    pub candidate-iff : (x : List Bool) → List·Memᴰ x (candidates n ks r w) ↔ Agreeing x
+    pub candidate-iff : (x : List Bool) → List·Memᴰ x (candidates n ks r w) ↔ Agreeing n ks r w x
     unfolding candidates
     candidate-iff x = (
       λ m. let f = filter-mem (agrees w) (codewords n ks r) m in (codeword-iff x .0 (f .0), f .1),
       λ (k, a). mem-filter (agrees w) (codeword-iff x .1 k) a,
     )
 
-    pub candidates-unique : (l : List (List Bool)) → Rises (Earlier n) l → ((x : List Bool) → List·Memᴰ x l ↔ Agreeing x) → l ≡ candidates n ks r w
+    pub candidates-unique : (l : List (List Bool)) → Rises (Earlier n) l → ((x : List Bool) → List·Memᴰ x l ↔ Agreeing n ks r w x) → l ≡ candidates n ks r w
     candidates-unique l s h =
         earlier-unique n l (candidates n ks r w) s candidates-rise (λ x. (λ m. candidate-iff x .1 (h x .0 m), λ m. h x .1 (candidate-iff x .0 m)))
 

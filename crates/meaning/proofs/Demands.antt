@@ -7,7 +7,7 @@
 --     unique-iff           unique exactly when one codeword agrees
 --     inconsistent-iff     inconsistent exactly when none does
 --     ambiguous-iff        ambiguous of dimension d exactly when 2 ^ d do, d at least 1
---     shown                the strips: settled, first, last; later bytes as found
+--     strips-shown         the strips: settled, first, last; later bytes as found
 --     demand-3             two words erased in the same places
 use mathlib.Core.Path.{_≡_, refl, sym, ap, ap₂, _∙_}
 use mathlib.Core.Logic.{_↔_}
@@ -131,15 +131,15 @@ module _ (n : ℕ) (s : List ℕ) (r c : ℕ) (w out : List ℕ) where
   abbrev pub decided : Reply
   decided = pick (ltb c g) (leaving out (TooMany g)) (verdict n g m cs out)
 
-  pub by-form : decoding n s r c w out ≡ firstOf (leaving out) (formRefusals n s r c w out) decided
+  pub by-form : decoding n s r c w out ≡ firstOf (leaving out) (formRefusals n s r c w (length out)) decided
   unfolding decoding decodeRefusals
-  by-form = first-append (leaving out) (formRefusals n s r c w out) _ (verdict n g m cs out)
+  by-form = first-append (leaving out) (formRefusals n s r c w (length out)) _ (verdict n g m cs out)
 
   -- ---- no fault of form
 
-  module _ (ok : refuses (formRefusals n s r c w out) ≡ false) where
+  module _ (ok : refuses (formRefusals n s r c w (length out)) ≡ false) where
     judged : decoding n s r c w out ≡ decided
-    judged = by-form ∙ first-none (leaving out) (formRefusals n s r c w out) _ ok
+    judged = by-form ∙ first-none (leaving out) (formRefusals n s r c w (length out)) _ ok
 
     pub over : c < g → decoding n s r c w out ≡ leaving out (TooMany g)
     over h = judged ∙ rw (lt-ltb c g h)
@@ -186,8 +186,8 @@ module _ (n : ℕ) (s : List ℕ) (r c : ℕ) (w out : List ℕ) where
           two (suc d) l = omega (arith, pow-pos d)
 
       -- where any codeword agrees, the strips are written, and bytes past them stay
-      pub shown : 0 < length cs → (decoding n s r c w out) .bytes ≡ strips n cs ++ drop (length (strips n cs)) out
-      shown l = ap (λ (a : Reply). a .bytes) (under h) ∙ verdict-shown n g m out cs l
+      pub strips-shown : 0 < length cs → (decoding n s r c w out) .bytes ≡ strips n cs ++ drop (length (strips n cs)) out
+      strips-shown l = ap (λ (a : Reply). a .bytes) (under h) ∙ verdict-shown n g m out cs l
 
 -- ---- demand 3
 
@@ -211,7 +211,7 @@ module _ (n : ℕ) (s : List ℕ) (r : ℕ) (w w′ : List ℕ) (e : map erased 
   unfolding equations openAll
   same-equations = rw e
 
-  pub demand-3 : (c : ℕ) (out out′ : List ℕ) → refuses (formRefusals n s r c w out) ≡ false → refuses (formRefusals n s r c w′ out′) ≡ false
+  pub demand-3 : (c : ℕ) (out out′ : List ℕ) → refuses (formRefusals n s r c w (length out)) ≡ false → refuses (formRefusals n s r c w′ (length out′)) ≡ false
       → SameFate n (decoding n s r c w out) (decoding n s r c w′ out′)
   demand-3 c out out′ ok ok′ = go (ltb c g₁) refl
     where

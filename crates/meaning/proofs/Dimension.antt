@@ -14,7 +14,7 @@ use borrow.Author.Tests.{lt-leb}
 use Rattle.meaning.specs.Sheet.{Rule}
 use Rattle.meaning.specs.Codewords.{candidates}
 use Rattle.meaning.specs.Strips.{log2, dimension}
-use Rattle.meaning.proofs.Gap.{number}
+use Rattle.meaning.proofs.Gap.{power-of-two}
 
 log2-pow : (f d : ℕ) → d ≤ f → log2 f (2 ^ d) ≡ d
 log2-pow zero zero h = refl
@@ -33,4 +33,4 @@ unfolding dimension
 dimension-pow cs d e = rw e (log2-pow (2 ^ d) d (below-pow d))
 
 pub dimension-is : (n : ℕ) (ks : List Rule) (r : ℕ) (w : List ℕ) → 0 < length (candidates n ks r w) → length (candidates n ks r w) ≡ 2 ^ dimension (candidates n ks r w)
-dimension-is n ks r w h = ⊎-elim (λ e. absurd (omega arith)) (λ (d, e). e ∙ ap (λ (k : ℕ). 2 ^ k) (sym (dimension-pow (candidates n ks r w) d e))) (number n ks r w)
+dimension-is n ks r w h = ⊎-elim (λ e. absurd (omega arith)) (λ (d, e). e ∙ ap (λ (k : ℕ). 2 ^ k) (sym (dimension-pow (candidates n ks r w) d e))) (power-of-two n ks r w)

@@ -18,9 +18,9 @@ use Rattle.meaning.specs.Check.{keepsRules, freeBits, poly, divides, kee
 use Rattle.meaning.specs.Limits.{leads}
 use Rattle.meaning.specs.Sheet.{Rule, free, frozen, early, frees}
 use Rattle.meaning.specs.Transform.{polar}
-use Rattle.meaning.specs.Codewords.{payloadOf, carrying}
+use Rattle.meaning.specs.Codewords.{payloadOf, carrying, Codeword}
 use Rattle.meaning.proofs.Polar.{length-polar, polar-polar}
-use Rattle.meaning.proofs.Candidates.{Codeword, earlier-unique, carrying-rise, carrying-iff}
+use Rattle.meaning.proofs.Candidates.{earlier-unique, carrying-rise, carrying-iff}
 use Rattle.meaning.proofs.Gap.{odd-early}
 use Rattle.meaning.proofs.Remainder.{length-poly, check-bits, length-remainder}
 

@@ -2,6 +2,7 @@
 --     Good, good           a sheet that none of 11, 12, 19, 13 meets
 --     Worded, worded       a word, and room for the answer, that no refusal from 14 to 16 meets
 --     checked-none, worded-none     none applies where checking answers done
+--     form-parts           both, and a ceiling: what is known where decoding has no fault of form
 --     bits-back            symbols up to 1 are bits
 use mathlib.Core.Path.{_≡_, refl, sym, ap, _∙_}
 use mathlib.Core.Logic.{_⊎_, inl, inr}
@@ -14,10 +15,10 @@ use lib.Dec.{eqb, leb, ltb}
 use borrow.Author.Tests.{ltb-false, leb-false, eqb-true, not-false, lt-ltb, le-ltb}
 use Rattle.bits.specs.Vectors.{bit, pick, firstPlace}
 use Rattle.bits.proofs.Tests.{or-false-l, or-false-r}
-use Rattle.meaning.specs.Limits.{largestN, recordBytes}
+use Rattle.meaning.specs.Limits.{largestN, recordBytes, largestCeiling}
 use Rattle.meaning.specs.Sheet.{rules, badRecord, frees, early}
-use Rattle.meaning.specs.Answers.{refuses, badShape, badCheck, sheetRefusals, wordRefusals, checking, wording, isOne, isDone}
-use Rattle.meaning.proofs.Refusals.{tried-done}
+use Rattle.meaning.specs.Answers.{refuses, badShape, badCheck, sheetRefusals, wordRefusals, callRefusals, formRefusals, checking, wording, isOne, isDone}
+use Rattle.meaning.proofs.Refusals.{tried-done, none-append}
 use Rattle.meaning.proofs.Sound.{rules-early}
 
 -- ---- the sheet
@@ -113,3 +114,14 @@ bits-back (suc zero ∷ w) h = ap {B = List ℕ} (λ l. 1 ∷ l) (bits-back w (l
 bits-back (suc (suc a) ∷ w) h =
     let two : ltb 1 (suc (suc a)) ≡ true = lt-ltb 1 (suc (suc a)) (omega arith) in
     absurd (true≢false (sym (lt-ltb 0 (suc (length w)) (omega arith)) ∙ ap (λ (b : Bool). ltb (pick b 0 (suc (firstPlace (ltb 1) w))) (suc (length w))) (sym two) ∙ h))
+
+-- ---- decoding
+
+-- a good sheet, a word, room for the answer, and a ceiling
+pub form-parts : (n : ℕ) (s : List ℕ) (r c : ℕ) (w : List ℕ) (room : ℕ) → refuses (formRefusals n s r c w room) ≡ false
+    → Good n s r × Worded (2 ^ n) 2 (3 * 2 ^ n) w room × (c ≤ largestCeiling)
+unfolding formRefusals
+form-parts n s r c w room h =
+    let (call, low) = none-append (callRefusals n s r (2 ^ n) 2 (3 * 2 ^ n) w room) _ h in
+    let (sheet, word) = none-append (sheetRefusals n s r) _ call in
+    (good n s r sheet, worded (2 ^ n) 2 (3 * 2 ^ n) w room word, ltb-false largestCeiling c (or-false-l (ltb largestCeiling c) false low))

@@ -1,5 +1,5 @@
 -- How many codewords agree, and how many positions are open.
---     number           0 or a power of two codewords agree
+--     power-of-two     0 or a power of two codewords agree
 --     d-le-g           if 2 ^ d agree, d is at most g
 --     g-le-erased      g is at most the number of erased symbols
 --     nothing-lost     so g is 0 where nothing is
@@ -30,8 +30,8 @@ use Rattle.meaning.proofs.Coset.{moves}
 use Rattle.meaning.proofs.Open.{meet-clear, open-list, ones-opens}
 use Rattle.meaning.proofs.Size.{power, bound}
 
-pub number : (n : ℕ) (ks : List Rule) (r : ℕ) (w : List ℕ) → (length (candidates n ks r w) ≡ 0) ⊎ ((d : ℕ) × (length (candidates n ks r w) ≡ 2 ^ d))
-number n ks r w = rw length-candidates (power (2 ^ n) (passes n ks r w) (λ u v t lu lv lt p q s. moves n ks r w w refl u v t lu lv lt p q s))
+pub power-of-two : (n : ℕ) (ks : List Rule) (r : ℕ) (w : List ℕ) → (length (candidates n ks r w) ≡ 0) ⊎ ((d : ℕ) × (length (candidates n ks r w) ≡ 2 ^ d))
+power-of-two n ks r w = rw length-candidates (power (2 ^ n) (passes n ks r w) (λ u v t lu lv lt p q s. moves n ks r w w refl u v t lu lv lt p q s))
 
 -- ---- a frozen bit follows from those before it
 

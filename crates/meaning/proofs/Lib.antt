@@ -18,6 +18,7 @@
 --     Holding                   a sheet that holds nothing is refused; any other that passes holds something
 --     Stuck                     a stuck run of leading zeros is caught
 --     Determined                a promise allows one result; what is refused leaves the buffer as found
+--     Saying                    what 01 says of decoding, sentence by sentence
 --     Heading                   the bytes of an answer record before its strips
 --     Cutting                   an input cut into pieces
 --     Bench                     the starred examples
@@ -47,6 +48,7 @@ pub mod ReadBack
 pub mod Holding
 pub mod Stuck
 pub mod Determined
+pub mod Saying
 pub mod Heading
 pub mod Cutting
 pub mod Bench

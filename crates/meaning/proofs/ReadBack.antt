@@ -22,7 +22,7 @@ use Rattle.meaning.specs.Check.{freeBits, keeps}
 use Rattle.meaning.specs.Codewords.{agrees, candidates, payloadOf, carrying}
 use Rattle.meaning.specs.Payload.{encoded}
 use Rattle.meaning.specs.Strips.{first}
-use Rattle.meaning.specs.Answers.{Reply, refuses, sheetRefusals, wordRefusals, encodeRefusals, readRefusals, isOne, isDone, leaving, writing, encoding, payloadRead, readingBack}
+use Rattle.meaning.specs.Answers.{Reply, refuses, sheetRefusals, wordRefusals, encodeRefusals, readRefusals, isOne, isDone, reply, leaving, writing, encoding, payloadRead, readingBack}
 use Rattle.meaning.specs.declared.Answer.{Answer}
 use Rattle.meaning.specs.declared.Answer.the-variants.{Done, Inconsistent}
 use Rattle.meaning.proofs.Polar.{length-polar, polar-polar}
@@ -70,7 +70,7 @@ module _ (n : ℕ) (s : List ℕ) (r : ℕ) where
   abbrev ks : List Rule
   ks = rules n s
 
-  module _ (p out : List ℕ) (ok : refuses (encodeRefusals n s r p out) ≡ false) where
+  module _ (p out : List ℕ) (ok : refuses (encodeRefusals n s r p (length out)) ≡ false) where
     parts : Good n s r × Worded (frees ks - r) 1 (2 ^ n) p (length out)
     unfolding encodeRefusals
     parts =
@@ -88,9 +88,9 @@ module _ (n : ℕ) (s : List ℕ) (r : ℕ) where
 
     pub encode-is : encoding n s r p out ≡ writing (map bit (polar n (encoded ks r bits))) out Done
     unfolding encoding
-    encode-is = first-none (leaving out) (encodeRefusals n s r p out) _ ok ∙ ap (λ (cs : List (List Bool)). writing (first cs) out Done) one
+    encode-is = first-none (leaving out) (encodeRefusals n s r p (length out)) _ ok ∙ ap (λ (cs : List (List Bool)). writing (first cs) out Done) one
 
-  module _ (w out : List ℕ) (ok : refuses (readRefusals n s r w out) ≡ false) where
+  module _ (w out : List ℕ) (ok : refuses (readRefusals n s r w (length out)) ≡ false) where
     read-parts : Good n s r × Worded (2 ^ n) 1 (frees ks - r) w (length out)
     unfolding readRefusals
     read-parts =
@@ -103,7 +103,7 @@ module _ (n : ℕ) (s : List ℕ) (r : ℕ) where
     pub read-is : readingBack n s r w out ≡ pick (keeps ks r (polar n word)) (writing (map bit (payloadOf n ks r word)) out Done) (leaving out (Inconsistent 0 0))
     unfolding readingBack payloadRead
     read-is =
-        first-none (leaving out) (readRefusals n s r w out) _ ok
+        first-none (leaving out) (readRefusals n s r w (length out)) _ ok
         ∙ ap (λ (cs : List (List Bool)). payloadRead n ks r cs out) (ap (candidates n ks r) (sym (bits-back w (read-parts .1 .symbols))) ∙ whole n ks r word (length-map w isOne ∙ read-parts .1 .long))
         ∙ go (keeps ks r (polar n word))
       where
@@ -129,7 +129,7 @@ unfolding wordRefusals
 word-none wanted top needed x room t l h =
     rw (eq-eqb (length (map bit x)) wanted (length-map x bit ∙ l), le-ltb (firstPlace (ltb top) (map bit x)) (length (map bit x)) (omega (arith, no-symbol top t x)), le-ltb room needed h)
 
-pub round-trip : (n : ℕ) (s : List ℕ) (r : ℕ) (p out out′ : List ℕ) → refuses (encodeRefusals n s r p out) ≡ false → frees (rules n s) - r ≤ length out′
+pub round-trip : (n : ℕ) (s : List ℕ) (r : ℕ) (p out out′ : List ℕ) → refuses (encodeRefusals n s r p (length out)) ≡ false → frees (rules n s) - r ≤ length out′
     → readingBack n s r (take (2 ^ n) ((encoding n s r p out) .bytes)) out′ ≡ writing p out′ Done
 unfolding encodeRefusals readRefusals payloadOf
 round-trip n s r p out out′ ok room =
@@ -143,7 +143,7 @@ round-trip n s r p out out′ ok room =
     let back : polar n x ≡ u = polar-polar n u lu in
     let wrote : take (2 ^ n) ((encoding n s r p out) .bytes) ≡ map bit x =
     ap (λ (a : Reply). take (2 ^ n) (a .bytes)) (encode-is n s r p out ok) ∙ take-at (map bit x) (drop (length (map bit x)) out) (2 ^ n) (length-map x bit ∙ lx) in
-    let fine : refuses (readRefusals n s r (map bit x) out′) ≡ false =
+    let fine : refuses (readRefusals n s r (map bit x) (length out′)) ≡ false =
     both-none (sheetRefusals n s r) (wordRefusals (2 ^ n) 1 (frees ks - r) (map bit x) (length out′))
     (none-append (sheetRefusals n s r) (wordRefusals (frees ks - r) 1 (2 ^ n) p (length out)) ok .0) (word-none (2 ^ n) 1 (frees ks - r) x (length out′) (omega arith) lx room) in
     let same : map isOne (map bit x) ≡ x = ones-back x in
@@ -157,16 +157,16 @@ round-trip n s r p out out′ ok room =
     ∙ ap (λ (l : List ℕ). writing l out′ Done) (bits-back p (w .symbols))
 
 -- encoding that answers Done was refused by nothing
-pub encoded-none : (n : ℕ) (s : List ℕ) (r : ℕ) (p out : List ℕ) → isDone ((encoding n s r p out) .answer) ≡ true → refuses (encodeRefusals n s r p out) ≡ false
+pub encoded-none : (n : ℕ) (s : List ℕ) (r : ℕ) (p out : List ℕ) → isDone ((encoding n s r p out) .answer) ≡ true → refuses (encodeRefusals n s r p (length out)) ≡ false
 unfolding encoding encodeRefusals sheetRefusals wordRefusals
-encoded-none n s r p out d = done-none out (encodeRefusals n s r p out) _ refl d
+encoded-none n s r p out d = done-none out (encodeRefusals n s r p (length out)) _ refl d
 
 pub round-trip-promised : (n : ℕ) (s : List ℕ) (r : ℕ) (p out out′ x y : List ℕ) (a b : Answer)
-    → leaving x a ≡ encoding n s r p out → a ≡ Done
+    → reply x a ≡ encoding n s r p out → a ≡ Done
     → leaving y b ≡ readingBack n s r (take (2 ^ n) x) out′ → frees (rules n s) - r ≤ length out′
     → (b ≡ Done) × (y ≡ p ++ drop (length p) out′)
 round-trip-promised n s r p out out′ x y a b e d f room =
-    let ok : refuses (encodeRefusals n s r p out) ≡ false =
+    let ok : refuses (encodeRefusals n s r p (length out)) ≡ false =
     encoded-none n s r p out (ap (λ (t : Reply). isDone (t .answer)) (sym e) ∙ ap isDone d) in
     let back : leaving y b ≡ writing p out′ Done =
     f ∙ ap (λ (t : Reply). readingBack n s r (take (2 ^ n) (t .bytes)) out′) e ∙ round-trip n s r p out out′ ok room in

@@ -4,6 +4,7 @@
 --     first-refused    where a row applies, what stands after the table does not matter
 --     refused-is       and what is answered is answered by a row
 --     tried-done, tried-refused     a table tried by itself, before more rows
+--     in-order         the fixed order: a row that applies is given where none before it does
 --     done-none        a call that answers Done was refused by no row
 --     refused-untouched     a call that a row refuses leaves its buffer as found
 use mathlib.Core.Path.{_≡_, refl, sym, ap, _∙_}
@@ -12,7 +13,7 @@ use mathlib.Core.Bool.{Bool, true, false, _&&_, _||_, not, false≢true, true≢
 use mathlib.Core.List.{List, [], _∷_, _++_, append-nil}
 use Rattle.bits.specs.Vectors.{pick, all}
 use Rattle.bits.proofs.Tests.{or-false-l, or-false-r, and-l, and-r}
-use Rattle.meaning.specs.Answers.{isDone, Refusal, firstOf, refuses, Reply, leaving}
+use Rattle.meaning.specs.Answers.{isDone, Refusal, firstOf, refuses, fault, Reply, leaving}
 use Rattle.meaning.specs.declared.Answer.{Answer}
 use Rattle.meaning.specs.declared.Answer.the-variants.{Done}
 
@@ -62,29 +63,25 @@ both-none (t ∷ a) b p q = rw (or-false-l (t .applies) _ p) (both-none a b (or-
 
 -- ---- a table tried by itself, before more rows
 
--- the table's own answer, Done where no row applies
-abbrev pub tried : List Refusal → Answer
-tried ts = firstOf (λ (a : Answer). a) ts Done
-
 -- no row answers Done
 abbrev pub Telling : List Refusal → Bool
 Telling ts = all (λ (t : Refusal). not (isDone (t .answer))) ts
 
-pub tried-done : (ts : List Refusal) → Telling ts ≡ true → isDone (tried ts) ≡ true → refuses ts ≡ false
+pub tried-done : (ts : List Refusal) → Telling ts ≡ true → isDone (fault ts) ≡ true → refuses ts ≡ false
 tried-done [] h d = refl
 tried-done (t ∷ ts) h d = go (t .applies) (isDone (t .answer)) refl h d (tried-done ts)
   where
-    go : (b c : Bool) → isDone (t .answer) ≡ c → not c && Telling ts ≡ true → isDone (pick b (t .answer) (tried ts)) ≡ true → (Telling ts ≡ true → isDone (tried ts) ≡ true → refuses ts ≡ false) → b || refuses ts ≡ false
+    go : (b c : Bool) → isDone (t .answer) ≡ c → not c && Telling ts ≡ true → isDone (pick b (t .answer) (fault ts)) ≡ true → (Telling ts ≡ true → isDone (fault ts) ≡ true → refuses ts ≡ false) → b || refuses ts ≡ false
     go true true e k q f = absurd (false≢true k)
     go true false e k q f = absurd (false≢true (sym e ∙ q))
     go false c e k q f = f (and-r (not c) _ k) q
 
 -- an answer that is not Done is that of the first part, whatever follows
-pub tried-refused : {A : Type 0} (f : Answer → A) (ts us : List Refusal) (z : A) → isDone (tried ts) ≡ false → firstOf f (ts ++ us) z ≡ f (tried ts)
+pub tried-refused : {A : Type 0} (f : Answer → A) (ts us : List Refusal) (z : A) → isDone (fault ts) ≡ false → firstOf f (ts ++ us) z ≡ f (fault ts)
 tried-refused f [] us z h = absurd (true≢false h)
 tried-refused f (t ∷ ts) us z h = go (t .applies) h (tried-refused f ts us z)
   where
-    go : (b : Bool) → isDone (pick b (t .answer) (tried ts)) ≡ false → (isDone (tried ts) ≡ false → firstOf f (ts ++ us) z ≡ f (tried ts)) → pick b (f (t .answer)) (firstOf f (ts ++ us) z) ≡ f (pick b (t .answer) (tried ts))
+    go : (b : Bool) → isDone (pick b (t .answer) (fault ts)) ≡ false → (isDone (fault ts) ≡ false → firstOf f (ts ++ us) z ≡ f (fault ts)) → pick b (f (t .answer)) (firstOf f (ts ++ us) z) ≡ f (pick b (t .answer) (fault ts))
     go true k g = refl
     go false k g = g k
 
@@ -92,14 +89,18 @@ tried-refused f (t ∷ ts) us z h = go (t .applies) h (tried-refused f ts us z)
 pub past-none : {A : Type 0} (f : Answer → A) (ts us : List Refusal) (z : A) → refuses ts ≡ false → firstOf f (ts ++ us) z ≡ firstOf f us z
 past-none f ts us z h = first-append f ts us z ∙ first-none f ts (firstOf f us z) h
 
-pub tried-all : {A : Type 0} (f : Answer → A) (ts : List Refusal) (z : A) → isDone (tried ts) ≡ false → firstOf f ts z ≡ f (tried ts)
+pub tried-all : {A : Type 0} (f : Answer → A) (ts : List Refusal) (z : A) → isDone (fault ts) ≡ false → firstOf f ts z ≡ f (fault ts)
 tried-all f ts z h = ap (λ (l : List Refusal). firstOf f l z) (sym (append-nil ts)) ∙ tried-refused f ts [] z h
+
+-- the fixed order: a row that applies is given where none before it does
+pub in-order : {A : Type 0} (f : Answer → A) (before after : List Refusal) (t : Refusal) (z : A) → refuses before ≡ false → t .applies ≡ true → firstOf f (before ++ t ∷ after) z ≡ f (t .answer)
+in-order f before after t z h k = past-none f before (t ∷ after) z h ∙ rw k
 
 -- a call that answers Done was refused by no row
 pub done-none : (out : List ℕ) (ts : List Refusal) (z : Reply) → Telling ts ≡ true → isDone ((firstOf (leaving out) ts z) .answer) ≡ true → refuses ts ≡ false
-done-none out ts z h d = go (isDone (tried ts)) refl
+done-none out ts z h d = go (isDone (fault ts)) refl
   where
-    go : (b : Bool) → isDone (tried ts) ≡ b → refuses ts ≡ false
+    go : (b : Bool) → isDone (fault ts) ≡ b → refuses ts ≡ false
     go true e = tried-done ts h e
     go false e = absurd (false≢true (sym e ∙ ap (λ (a : Reply). isDone (a .answer)) (sym (tried-all (leaving out) ts z e)) ∙ d))
 

@@ -15,7 +15,7 @@ use borrow.Author.Tests.{eqb-true, eq-eqb, ne-eqb}
 use Rattle.bits.specs.Vectors.{tab, firstPlace}
 use Rattle.bits.proofs.Tests.{tab-at, length-tab, place-passes, place-found, place-next, place-end, place-le}
 use Rattle.meaning.specs.Limits.{Layout}
-use Rattle.meaning.specs.Stream.{sizeIn}
+use Rattle.meaning.specs.Stream.{nIn}
 
 module _ (L : Layout) (s : List ℕ) where
   abbrev has : ℕ → Bool
@@ -24,18 +24,18 @@ module _ (L : Layout) (s : List ℕ) where
   abbrev sizes : List ℕ
   sizes = tab (suc (L .largest)) (λ (n : ℕ). n)
 
-  pub size-most : sizeIn L s ≤ suc (L .largest)
+  pub size-most : nIn L s ≤ suc (L .largest)
   size-most = omega (arith, place-le has sizes, length-tab (suc (L .largest)) (λ (n : ℕ). n))
 
-  pub size-right : sizeIn L s ≤ L .largest → length s ≡ 2 ^ sizeIn L s * L .bytes
+  pub size-right : nIn L s ≤ L .largest → length s ≡ 2 ^ nIn L s * L .bytes
   size-right h =
-      let l : sizeIn L s < length sizes = omega (arith, length-tab (suc (L .largest)) (λ (n : ℕ). n)) in
-      let at : getD sizes (sizeIn L s) 0 ≡ sizeIn L s = tab-at (suc (L .largest)) (λ (n : ℕ). n) (sizeIn L s) 0 (omega arith) in
+      let l : nIn L s < length sizes = omega (arith, length-tab (suc (L .largest)) (λ (n : ℕ). n)) in
+      let at : getD sizes (nIn L s) 0 ≡ nIn L s = tab-at (suc (L .largest)) (λ (n : ℕ). n) (nIn L s) 0 (omega arith) in
       eqb-true (length s) _ (ap has (sym at) ∙ place-passes has sizes 0 l)
 
   -- what is left to search at n
   abbrev pub Left : ℕ → Type 0
-  Left n = n + firstPlace has (drop n sizes) ≡ sizeIn L s
+  Left n = n + firstPlace has (drop n sizes) ≡ nIn L s
 
   pub size-start : Left 0
   size-start = zero-add (firstPlace has sizes)
@@ -47,11 +47,11 @@ module _ (L : Layout) (s : List ℕ) where
     within : n ≤ L .largest → n < length sizes
     within h = omega (arith, length-tab (suc (L .largest)) (λ (i : ℕ). i))
 
-    pub size-found : n ≤ L .largest → length s ≡ 2 ^ n * L .bytes → n ≡ sizeIn L s
+    pub size-found : n ≤ L .largest → length s ≡ 2 ^ n * L .bytes → n ≡ nIn L s
     size-found h e = sym (place-found has sizes n 0 (within h) (ap has (at h) ∙ eq-eqb (length s) (2 ^ n * L .bytes) e)) ∙ l
 
     pub size-next : n ≤ L .largest → (length s ≡ 2 ^ n * L .bytes → ⊥) → Left (n + 1)
     size-next h e = rw add-one (sym (place-next has sizes n 0 (within h) (ap has (at h) ∙ ne-eqb (length s) (2 ^ n * L .bytes) e)) ∙ l)
 
-    pub size-none : L .largest < n → n ≡ sizeIn L s
+    pub size-none : L .largest < n → n ≡ nIn L s
     size-none h = sym (place-end has sizes n (omega (arith, length-tab (suc (L .largest)) (λ (i : ℕ). i)))) ∙ l

@@ -190,13 +190,13 @@ module _ (n : ℕ) (s : List ℕ) (r : ℕ) (out : List ℕ) (k : Check r) where
   abbrev stuck : List ℕ
   stuck = replicate (2 ^ n) 0
 
-  pub stuck-decoded : (c : ℕ) → refuses (formRefusals n s r c stuck out) ≡ false → decoding n s r c stuck out ≡ leaving out (Inconsistent 0 (equations n (rules n s) r stuck))
+  pub stuck-decoded : (c : ℕ) → refuses (formRefusals n s r c stuck (length out)) ≡ false → decoding n s r c stuck out ≡ leaving out (Inconsistent 0 (equations n (rules n s) r stuck))
   unfolding verdict
   stuck-decoded c ok =
       let g : unknowns n (rules n s) stuck ≡ 0 = ap (unknowns n (rules n s)) (zero-bits (2 ^ n)) ∙ nothing-lost n (rules n s) (none (2 ^ n)) (length-none (2 ^ n)) in
       under n s r c stuck out ok (omega arith) ∙ ap₂ (λ (g : ℕ) (cs : List (List Bool)). verdict n g (equations n (rules n s) r stuck) cs out) g (stuck-alone n (rules n s) r k)
 
-  pub stuck-read : refuses (readRefusals n s r stuck out) ≡ false → readingBack n s r stuck out ≡ leaving out (Inconsistent 0 0)
+  pub stuck-read : refuses (readRefusals n s r stuck (length out)) ≡ false → readingBack n s r stuck out ≡ leaving out (Inconsistent 0 0)
   stuck-read ok =
       let word : map isOne stuck ≡ none (2 ^ n) = ap (map isOne) (zero-bits (2 ^ n)) ∙ ones-back (none (2 ^ n)) in
       let no : keeps (rules n s) r (polar n (map isOne stuck)) ≡ false = ap (λ (x : List Bool). keeps (rules n s) r (polar n x)) word ∙ stuck-kept n (rules n s) r k in

@@ -2,12 +2,15 @@
 --     codewords n ks r       the x of any u that keeps every frozen rule and the check, in the order of u
 --     erased, agrees         a symbol is erased; a codeword equals the word at every symbol that isn't
 --     candidates n ks r w    the agreeing codewords, in the order of u
+--     Codeword, Agreeing     x is a codeword; and agrees with the word (proofs/Candidates: the lists hold these and no other)
+--     OneAgrees, NoneAgrees  there is an agreeing codeword, and every other equals it; there is none
 --     payloadOf n ks r x     the payload of a codeword
 --     carrying n ks r p      the codewords with a payload
 use Prim.Native.Nat.{ℕ, zero, suc, _-_, _^_}
+use mathlib.Core.Path.{_≡_}
 use mathlib.Core.Bool.{Bool, true, false, _&&_, not}
 use mathlib.Core.List.{List, [], _∷_, map}
-use lib.ListN.{take}
+use lib.ListN.{length, take}
 use Rattle.bits.specs.Vectors.{allBits, filter, same}
 use Rattle.meaning.specs.Transform.{polar}
 use Rattle.meaning.specs.Sheet.{Rule, frees}
@@ -38,6 +41,20 @@ agrees (s ∷ w) (b ∷ x) = fits s b && agrees w x
 -- the agreeing codewords, in the order of their u
 unfoldable pub candidates : ℕ → List Rule → ℕ → List ℕ → List (List Bool)
 candidates n ks r w = filter (agrees w) (codewords n ks r)
+
+-- x is the transform of a u that keeps every frozen rule and the check: of its own transform
+abbrev pub Codeword : ℕ → List Rule → ℕ → List Bool → Type 0
+Codeword n ks r x = (length x ≡ 2 ^ n) × (keeps ks r (polar n x) ≡ true)
+
+-- x is a codeword that agrees
+abbrev pub Agreeing : ℕ → List Rule → ℕ → List ℕ → List Bool → Type 0
+Agreeing n ks r w x = Codeword n ks r x × (agrees w x ≡ true)
+
+abbrev pub OneAgrees : ℕ → List Rule → ℕ → List ℕ → Type 0
+OneAgrees n ks r w = (x : List Bool) × (Agreeing n ks r w x × ((y : List Bool) → Agreeing n ks r w y → y ≡ x))
+
+abbrev pub NoneAgrees : ℕ → List Rule → ℕ → List ℕ → Type 0
+NoneAgrees n ks r w = (x : List Bool) → Agreeing n ks r w x → ⊥
 
 -- the payload is the first K - r free bits of u, the transform of x
 unfoldable pub payloadOf : ℕ → List Rule → ℕ → List Bool → List Bool

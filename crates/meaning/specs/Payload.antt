@@ -1,4 +1,5 @@
--- How a codeword is made of its payload. No promise rests on this: that it is the one codeword with the payload is proved (proofs/Encode).
+-- How a codeword is made of its payload: that it is the one codeword with the payload is proved (proofs/Encode). Of the public promises only
+-- that of `division::append` cites a definition of this file, `remainder`.
 --     remainder g p      the remainder of p after shifting by r, dividing by D^r + g
 --     place ks c f       the bits that the rules ks give after the bits c, with f for the free ones
 --     encoded ks r p     the u of payload p

@@ -3,7 +3,7 @@
 --     header a             the bytes of an answer record before its strips
 --     answerRecord         the record of one word
 --     numberAt r i         the number in the bytes i and i + 1 of a record
---     sizeOf s             the n of a sheet, from its length; sizeIn L s, in any layout
+--     nOf s             the n of a sheet, from its length; nIn L s, in any layout
 --     roundedUp, pieceAt, pieceEnd     an input cut into pieces of L bytes: how many, piece k, and where it ends; wordAt, the words
 --     records              all records that an input gets
 --     streaming            what the call answers and leaves in its buffer
@@ -56,11 +56,11 @@ refusedRecord a = header a ++ replicate (3 * stripWidth) 255
 -- ---- the whole input
 
 -- the n up to the largest for which the sheet is N records long, or one more than the largest
-abbrev pub sizeIn : Layout → List ℕ → ℕ
-sizeIn L s = firstPlace (λ (n : ℕ). eqb (length s) (2 ^ n * L .bytes)) (tab (suc (L .largest)) (λ (n : ℕ). n))
+abbrev pub nIn : Layout → List ℕ → ℕ
+nIn L s = firstPlace (λ (n : ℕ). eqb (length s) (2 ^ n * L .bytes)) (tab (suc (L .largest)) (λ (n : ℕ). n))
 
-unfoldable pub sizeOf : List ℕ → ℕ
-sizeOf s = sizeIn layout s
+unfoldable pub nOf : List ℕ → ℕ
+nOf s = nIn layout s
 
 -- input bytes divided by N, rounded up; 0 for an N of 0
 unfoldable pub roundedUp : ℕ → ℕ → ℕ
@@ -81,7 +81,7 @@ wordAt n input k = pieceAt (2 ^ n) input k
 -- record k is the answer to word k
 unfoldable pub records : List ℕ → List ℕ → List ℕ → List (List ℕ)
 records s ch input =
-    let n = sizeOf s in
+    let n = nOf s in
     pick (ltb largestN n) (refusedRecord BadShape ∷ [])
     (pick (not (eqb (length ch) 2)) (refusedRecord BadCheck ∷ [])
     (tab (roundedUp (length input) (2 ^ n)) (λ (k : ℕ). answerRecord n s (getD ch 0 0) (getD ch 1 0) (wordAt n input k))))

@@ -8,6 +8,7 @@ use Prim.Native.Nat.{ℕ, _≤_, _<_}
 use native.Mathlib.Omega.{arith}
 use mathlib.Core.Bool.{Bool, true, false}
 use mathlib.Core.List.{List}
+use lib.ListN.{length}
 use borrow.Author.Tests.{le-ltb}
 use Rattle.bits.proofs.Tests.{le-or-lt}
 use Rattle.meaning.specs.Limits.{largestCeiling}
@@ -24,16 +25,16 @@ module _ (n : ℕ) (s : List ℕ) (r c c′ : ℕ) (w out : List ℕ) (up : c �
   abbrev g : ℕ
   g = unknowns n (rules n s) w
 
-  same-form : formRefusals n s r c w out ≡ formRefusals n s r c′ w out
+  same-form : formRefusals n s r c w (length out) ≡ formRefusals n s r c′ w (length out)
   unfolding formRefusals
   same-form = rw (le-ltb largestCeiling c (omega arith), le-ltb largestCeiling c′ limit)
 
   pub lowered : (decoding n s r c w out ≡ decoding n s r c′ w out) ⊎ ((decoding n s r c w out ≡ leaving out (TooMany g)) × (c < g))
-  lowered = go (refuses (formRefusals n s r c w out)) refl
+  lowered = go (refuses (formRefusals n s r c w (length out))) refl
     where
-      go : (b : Bool) → refuses (formRefusals n s r c w out) ≡ b → (decoding n s r c w out ≡ decoding n s r c′ w out) ⊎ ((decoding n s r c w out ≡ leaving out (TooMany g)) × (c < g))
+      go : (b : Bool) → refuses (formRefusals n s r c w (length out)) ≡ b → (decoding n s r c w out ≡ decoding n s r c′ w out) ⊎ ((decoding n s r c w out ≡ leaving out (TooMany g)) × (c < g))
       go true e =
-          inl (by-form n s r c w out ∙ first-refused (leaving out) (formRefusals n s r c w out) (decided n s r c w out) (decided n s r c′ w out) e ∙ ap (λ (ts : List Refusal). firstOf (leaving out) ts (decided n s r c′ w out)) same-form
+          inl (by-form n s r c w out ∙ first-refused (leaving out) (formRefusals n s r c w (length out)) (decided n s r c w out) (decided n s r c′ w out) e ∙ ap (λ (ts : List Refusal). firstOf (leaving out) ts (decided n s r c′ w out)) same-form
           ∙ sym (by-form n s r c′ w out))
       go false e =
           ⊎-elim

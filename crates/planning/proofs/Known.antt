@@ -22,8 +22,8 @@ use Rattle.meaning.specs.Strips.{settledAt, first, last, strips, dimension, log
 use Rattle.meaning.specs.Answers.{numbersOf, refuses, sheetRefusals, wordRefusals, formRefusals, Reply, leaving, verdict, decoding}
 use Rattle.meaning.specs.declared.Answer.{Answer}
 use Rattle.meaning.specs.declared.Answer.the-variants.{TooMany}
-use Rattle.meaning.proofs.Refusals.{refused-is, none-append}
-use Rattle.meaning.proofs.Forms.{worded}
+use Rattle.meaning.proofs.Refusals.{refused-is}
+use Rattle.meaning.proofs.Forms.{form-parts}
 use Rattle.meaning.proofs.Sound.{length-rules}
 use Rattle.meaning.proofs.Strips.{candidate-long, strips-whole, strips-first, strips-last}
 use Rattle.meaning.proofs.Dimension.{dimension-is}
@@ -52,14 +52,14 @@ module _ (n : ℕ) (s : List ℕ) (r c : ℕ) (w out : List ℕ) where
   abbrev cs : List (List Bool)
   cs = candidates n (rules n s) r w
 
-  refused-form : refuses (formRefusals n s r c w out) ≡ true → not (formed (numbers reply)) ≡ true
+  refused-form : refuses (formRefusals n s r c w (length out)) ≡ true → not (formed (numbers reply)) ≡ true
   unfolding formRefusals sheetRefusals wordRefusals
   refused-form h =
       let p : Answer → Bool = λ a. not (formed (numbersOf a)) in
-      ap (λ (t : Reply). p (t .answer)) (by-form n s r c w out) ∙ refused-is p out (formRefusals n s r c w out) (decided n s r c w out) refl h
+      ap (λ (t : Reply). p (t .answer)) (by-form n s r c w out) ∙ refused-is p out (formRefusals n s r c w (length out)) (decided n s r c w out) refl h
 
   -- and the other way round
-  pub none-formed : refuses (formRefusals n s r c w out) ≡ false → formed (numbers reply) ≡ true
+  pub none-formed : refuses (formRefusals n s r c w (length out)) ≡ false → formed (numbers reply) ≡ true
   none-formed ok =
       ⊎-elim
       (λ (h : g ≤ c). ap (λ (t : Reply). formed (numbers t)) (under n s r c w out ok h) ∙ ap formed (verdict-numbers n g m out cs) ∙ told-formed (length cs))
@@ -72,16 +72,15 @@ module _ (n : ℕ) (s : List ℕ) (r c : ℕ) (w out : List ℕ) where
       told-formed (suc (suc k)) = refl
 
   module _ (ok : formed (numbers reply) ≡ true) where
-    pub formed-none : refuses (formRefusals n s r c w out) ≡ false
-    formed-none = go (refuses (formRefusals n s r c w out)) refl
+    pub formed-none : refuses (formRefusals n s r c w (length out)) ≡ false
+    formed-none = go (refuses (formRefusals n s r c w (length out))) refl
       where
-        go : (b : Bool) → refuses (formRefusals n s r c w out) ≡ b → refuses (formRefusals n s r c w out) ≡ false
+        go : (b : Bool) → refuses (formRefusals n s r c w (length out)) ≡ b → refuses (formRefusals n s r c w (length out)) ≡ false
         go true e = absurd (true≢false (sym (refused-form e) ∙ ap not ok))
         go false e = e
 
     word-long : length w ≡ 2 ^ n
-    unfolding formRefusals
-    word-long = worded _ _ _ w (length out) (none-append (sheetRefusals n s r) _ (none-append (sheetRefusals n s r ++ wordRefusals (2 ^ n) 2 (3 * 2 ^ n) w (length out)) _ formed-none .0) .1) .long
+    word-long = form-parts n s r c w (length out) formed-none .1 .long
 
     pub g-answered : gOf (numbers reply) ≡ g
     g-answered = go (ltb c g) refl

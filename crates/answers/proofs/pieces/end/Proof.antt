@@ -1,15 +1,12 @@
 use Rattle.meaning.proofs.Cutting.{ends-nowhere, ends-last, ends-within, ends-first}
 use native.Mathlib.Nat.{div-le-self}
 use borrow.Author.Needs.{needs}
 use native.Mathlib.Omega.{arith}
-use Rattle.meaning.proofs.pieces.end.Statement.{statement}
-use Rattle.meaning.proofs.pieces.end.Tie as tie
+use Rattle.answers.proofs.pieces.end.Statement.{statement}
+use Rattle.answers.proofs.pieces.end.Tie as tie
 
 returns : tie.Need-returns
 returns c = ends-nowhere _ _ _ (c .if1 .taken)
-
-div-if2 : tie.Need-div-if2
-div-if2 c = search needs
 
 returns-2 : tie.Need-returns-2
 returns-2 c = ends-last _ _ _ (c .before .if1 .left) (c .if2 .taken)
@@ -26,4 +23,4 @@ returns-3 : tie.Need-returns-3
 returns-3 c = ends-first _ _ _ (c .before .if1 .left) (c .if2 .left)
 
 pub end-spec : {M : Type 1} → statement M
-end-spec = tie.close (tie.spec returns div-if2 returns-2 add-result mul-result returns-3)
+end-spec = tie.close (tie.spec returns (λ c. search needs) returns-2 add-result mul-result returns-3)
