@@ -17,11 +17,12 @@ use borrow.Author.Tests.{eqb-true, eqb-false}
 use Rattle.bits.specs.Vectors.{bit, tab}
 use Rattle.bits.specs.Rows.{Row, row, rows, Wide}
 use Rattle.bits.proofs.Tests.{tab-getD}
-use Rattle.bits.proofs.RowLaws.{getD-⊻, length-⊻, length-part, getD-part, row-fit, flatten-rows}
+use Rattle.bits.proofs.RowLaws.{length-part, getD-part, row-fit, flatten-rows}
+use Rattle.bits.proofs.RowXor.{getD-⊻, length-⊻}
 use Rattle.meaning.specs.Sheet.{rules}
 use Rattle.model.specs.Related.{Along, nil, cons, Bound}
 use Rattle.model.proofs.Relate.{along-length, checks-bound}
-use Rattle.ruling.specs.Values.{rowValues}
+use Rattle.model.specs.RowValues.{rowValues}
 use Rattle.checks.specs.Registers.{wordValues, unitWord, column, remainder, Put, ColumnsUpTo}
 use Rattle.checks.specs.Checking.{checkOf}
 use Rattle.checks.proofs.Shifting.{checks-is, length-remainder}

@@ -11,7 +11,6 @@ use mathlib.Core.List.{List, _++_, append-assoc, flatten}
 use lib.ListN.{length, take, drop, length-drop}
 use lib.Seq.{length-take-le}
 use borrow.Rule.Slice.PartMut.{putMid, post-is}
-use Rattle.meaning.specs.Limits.{recordBytes}
 use Rattle.bits.specs.Vectors.{pick}
 use Rattle.checks.specs.Registers.{remainder, ColumnsUpTo}
 use Rattle.checks.specs.Checking.{checkFits, Checked, checked, checkOf, checking}
@@ -33,9 +32,6 @@ part-length m r w l h =
 pub part-rows : (k c w n : ℕ) → c < w → k * w ≤ n → k ≤ n
 part-rows k c zero n h q = absurd (omega arith)
 part-rows k c (suc w) n h q = omega (arith, mul-suc k w)
-
-pub part-records : (n s size : ℕ) → s ≡ 2 ^ n * recordBytes → size ≡ 2 ^ n → size * recordBytes ≤ s
-part-records n s size p q = rw (p, q) (omega arith)
 
 -- ---- its two cases
 

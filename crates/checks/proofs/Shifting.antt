@@ -12,7 +12,7 @@ use mathlib.Core.Bool.{Bool, true, false}
 use mathlib.Core.List.{List, [], _∷_, _++_, append-nil, append-assoc}
 use lib.ListN.{length-set, List·getD-append, length, take, drop, getD, set, replicate, length-append, length-map, length-replicate, replicate-append-replicate, drop-of-length-le}
 use lib.Seq.{getD-at, ext-getD, drop-cons, take-suc-set, take-all}
-use lib.Dec.{ltb}
+use lib.Dec.{eqb, ltb}
 use lib.Bits.{bitXor, xor-zero-r}
 use borrow.Author.Tests.{ne-eqb, ltb-true, ltb-false}
 use Rattle.bits.specs.Vectors.{pick, tab}
@@ -23,7 +23,7 @@ use Rattle.meaning.specs.Sheet.{Rule, free, ruleAt, byte}
 use Rattle.meaning.specs.Check.{poly}
 use Rattle.meaning.proofs.Remainder.{length-poly}
 use Rattle.model.specs.Model.{freeOf, sums, scaled, shiftOf, restOf, checks}
-use Rattle.counting.proofs.Counting.{rule-free, rule-frozen}
+use Rattle.sheet.proofs.Records.{rule-free, rule-frozen, rules-at}
 use Rattle.checks.specs.Registers.{wordValues, unitWord, column, moved, fedAt, fed, tapped, plusAt, fedAll, remainder}
 
 -- ---- the polynomial
@@ -206,29 +206,26 @@ module _ (r : ℕ) (sheet : List ℕ) (n : ℕ) (us : List ℕ) (w c k : ℕ) wh
   pub column-room : (i : ℕ) → length us ≡ n * w → k < w → i < n → i * w + k < length us
   column-room i l hk h = let f = row-fit i n w h in omega arith
 
-  rules-at : (i : ℕ) → i < n → drop i ks ≡ ruleAt sheet i ∷ drop (suc i) ks
-  rules-at i h = drop-cons ks i free (omega (arith, length-tab n (ruleAt sheet))) ∙ ap {B = List Rule} (λ x. x ∷ drop (suc i) ks) (tab-at n (ruleAt sheet) i free h)
-
   words-at : (i : ℕ) → i < n → drop i vs ≡ getD us (i * w + k) 0 ∷ drop (suc i) vs
   words-at i h =
       let f : ℕ → ℕ = λ x. getD us (x * w + k) 0 in
       drop-cons vs i 0 (omega (arith, length-tab n f)) ∙ ap {B = List ℕ} (λ x. x ∷ drop (suc i) vs) (tab-at n f i 0 h)
 
-  module _ (reg : List ℕ) (i t : ℕ) (p : Dividing reg i) (h : i < n) (e : t ≡ byte sheet i 0) where
-    pub dividing-free : t ≡ 0 → (reg′ : List ℕ) → reg′ ≡ fed (length reg) reg (getD us (i * w + k) 0) → Dividing reg′ (i + 1)
+  module _ (reg : List ℕ) (i : ℕ) {t : Bool} (p : Dividing reg i) (h : i < n) (e : t ≡ eqb (byte sheet i 0) 0) where
+    pub dividing-free : t ≡ true → (reg′ : List ℕ) → reg′ ≡ fed (length reg) reg (getD us (i * w + k) 0) → Dividing reg′ (i + 1)
     dividing-free z reg′ q =
         let b = getD us (i * w + k) 0 in
         let x : reg′ ≡ fed r reg b = q ∙ ap (λ (l : ℕ). fed l reg b) (p .size) in
-        let cut : freeOf (drop i ks) (drop i vs) ≡ b ∷ freeOf (drop (suc i) ks) (drop (suc i) vs) = rw (rules-at i h, rule-free sheet i t e z, words-at i h) in
+        let cut : freeOf (drop i ks) (drop i vs) ≡ b ∷ freeOf (drop (suc i) ks) (drop (suc i) vs) = rw (rules-at sheet n i h, rule-free sheet i e z, words-at i h) in
         record {
           some = omega arith;
           size = ap length x ∙ length-fed r reg b;
           left = rw (add-one i, x) (sym (ap (fedAll r reg) cut) ∙ p .left);
         }
 
-    pub dividing-frozen : (t ≡ 0 → ⊥) → Dividing reg (i + 1)
+    pub dividing-frozen : t ≡ false → Dividing reg (i + 1)
     dividing-frozen z =
-        let cut : freeOf (drop i ks) (drop i vs) ≡ freeOf (drop (suc i) ks) (drop (suc i) vs) = rw (rules-at i h, rule-frozen sheet i t e z, words-at i h) in
+        let cut : freeOf (drop i ks) (drop i vs) ≡ freeOf (drop (suc i) ks) (drop (suc i) vs) = rw (rules-at sheet n i h, rule-frozen sheet i e z, words-at i h) in
         record { some = omega arith; size = p .size; left = rw (add-one i) (sym (ap (fedAll r reg) cut) ∙ p .left) }
 
   pub dividing-all : (reg : List ℕ) (i : ℕ) → Dividing reg i → n ≤ i → reg ≡ remainder r sheet n us w c k

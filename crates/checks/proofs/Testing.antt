@@ -1,27 +1,21 @@
 -- The test of what a caller hands over, in the values that the code has by then.
---     recorded-.., length-.., spaced-..     each test of the code, and what the definition then says
+--     spaced-..                             each test of the code, and what the definition then says
 --     fits-..                               the whole test
 --     Ready, ready                          what holds where all fits
-use mathlib.Core.Path.{_≡_, refl, sym, ap, _∙_}
+use mathlib.Core.Path.{_≡_, refl, sym, _∙_}
 use Prim.Native.Nat.{ℕ, suc, _+_, _-_, _*_, _/_, _%_, _^_, _≤_, _<_}
 use native.Mathlib.Omega.{arith}
 use native.Mathlib.Nat.{mul-le-mul-right, div-add-mod, mod-lt}
-use mathlib.Core.Bool.{Bool, true, false, _||_, not}
+use mathlib.Core.Bool.{Bool, true, false, not}
 use lib.Dec.{eqb, leb, ltb}
 use borrow.Author.Tests.{ltb-true, leb-true, leb-false, eqb-true, lt-ltb, le-ltb, le-leb, lt-leb, not-true}
-use Rattle.bits.specs.Vectors.{bit}
 use Rattle.bits.proofs.Tests.{and-l, and-r}
-use Rattle.meaning.specs.Limits.{largestN, recordBytes}
+use Rattle.meaning.specs.Limits.{largestN}
+use Rattle.meaning.specs.Answers.{checkLength}
+use Rattle.sheet.specs.Shapes.{positions, recorded}
+use Rattle.sheet.proofs.Shapes.{recorded-true, positions-all, check-length-most}
 use Rattle.descent.specs.Descending.{widest}
-use Rattle.checks.specs.Checking.{recorded, checkLength, spaced, checkFits}
-
-pub recorded-large : (n s : ℕ) → largestN < n → recorded n s ≡ false
-unfolding recorded
-recorded-large n s h = rw (lt-leb n largestN h)
-
-pub recorded-size : (n s size : ℕ) → n ≤ largestN → size ≡ 2 ^ n → recorded n s ≡ eqb s (size * recordBytes)
-unfolding recorded
-recorded-size n s size h e = rw (le-leb n largestN h, ← e)
+use Rattle.checks.specs.Checking.{spaced, checkFits}
 
 -- ---- the room for rows
 
@@ -75,15 +69,11 @@ module _ (n s r c w u m e : ℕ) {t : Bool} where
   unfolding checkFits
   fits-spaced h k p q = rw (h, k, sym p ∙ not-true t q)
 
-pub fits-rows : (n s r c w u m e size : ℕ) → recorded n s ≡ true → checkLength r ≡ true → spaced r c w m e ≡ true → size ≡ 2 ^ n → checkFits n s r c w u m e ≡ eqb u (size * w)
+pub fits-rows : (n s r c w u m e size : ℕ) → recorded n s ≡ true → checkLength r ≡ true → spaced r c w m e ≡ true → size ≡ positions n → checkFits n s r c w u m e ≡ eqb u (size * w)
 unfolding checkFits
-fits-rows n s r c w u m e size h k l q = rw (h, k, l, ← q)
+fits-rows n s r c w u m e size h k l q = rw (h, k, l, q, positions-all n (recorded-true n s h .0))
 
 -- ---- where all fits
-
-pub recorded-true : (n s : ℕ) → recorded n s ≡ true → (n ≤ largestN) × (s ≡ 2 ^ n * recordBytes)
-unfolding recorded
-recorded-true n s h = (leb-true n largestN (and-l _ _ h), eqb-true s (2 ^ n * recordBytes) (and-r (leb n largestN) _ h))
 
 pub spaced-true : (r c w m e : ℕ) → spaced r c w m e ≡ true → (w ≤ widest) × (c < w) × ((m + r) * w ≤ e)
 unfolding spaced
@@ -91,19 +81,8 @@ spaced-true r c w m e h =
     let k = and-r (leb w widest) _ h in
     (leb-true w widest (and-l _ _ h), ltb-true c w (and-l _ _ k), leb-true ((m + r) * w) e (and-r (ltb c w) _ k))
 
-pub length-true : (r : ℕ) → checkLength r ≡ true → r ≤ 11
-unfolding checkLength
-length-true r h = go (eqb r 0) (eqb r 6) (eqb r 11) refl refl refl h
-  where
-    go : (x y z : Bool) → eqb r 0 ≡ x → eqb r 6 ≡ y → eqb r 11 ≡ z → (x || (y || z)) ≡ true → r ≤ 11
-    go true y z p q s k = let e = eqb-true r 0 p in omega arith
-    go false true z p q s k = let e = eqb-true r 6 q in omega arith
-    go false false true p q s k = let e = eqb-true r 11 s in omega arith
-    go false false false p q s k = let z : _≡_ {A = ℕ} 0 1 = ap bit k in absurd (omega arith)
-
 pub record Ready (n s r c w u m e : ℕ) : Type 0 where
   pub small : n ≤ largestN
-  pub records : s ≡ 2 ^ n * recordBytes
   pub short : r ≤ 11
   pub narrow : w ≤ widest
   pub constant : c < w
@@ -115,12 +94,11 @@ unfolding checkFits
 ready n s r c w u m e h =
     let k = and-r (recorded n s) _ h in
     let l = and-r (checkLength r) _ k in
-    let (a, b) = recorded-true n s (and-l _ _ h) in
+    let (a, _) = recorded-true n s (and-l _ _ h) in
     let (x, y, z) = spaced-true r c w m e (and-l _ _ l) in
     record {
       small = a;
-      records = b;
-      short = length-true r (and-l _ _ k);
+      short = check-length-most r (and-l _ _ k);
       narrow = x;
       constant = y;
       room = z;

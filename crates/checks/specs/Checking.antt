@@ -4,27 +4,20 @@
 --     checkOf             the rows of the check
 --     checking            the answer and the list after the call
 use Prim.Native.Nat.{ℕ, _+_, _*_, _^_}
-use mathlib.Core.Bool.{Bool, true, false, _&&_, _||_}
+use mathlib.Core.Bool.{Bool, true, false, _&&_}
 use mathlib.Core.List.{List, _++_, flatten}
 use lib.ListN.{length, take, drop}
 use lib.Dec.{eqb, leb, ltb}
 use Rattle.bits.specs.Vectors.{pick}
 use Rattle.bits.specs.Rows.{Row, rows}
-use Rattle.meaning.specs.Limits.{largestN, recordBytes}
 use Rattle.meaning.specs.Sheet.{rules}
+use Rattle.meaning.specs.Answers.{checkLength}
+use Rattle.sheet.specs.Shapes.{recorded}
 use Rattle.model.specs.Model.{checks}
-use Rattle.ruling.specs.Values.{rowValues}
+use Rattle.model.specs.RowValues.{rowValues}
 use Rattle.descent.specs.Descending.{widest}
 
 -- ---- what fits together, by its lengths
-
--- the sheet has N records
-unfoldable pub recorded : ℕ → ℕ → Bool
-recorded n sheet = leb n largestN && eqb sheet (2 ^ n * recordBytes)
-
--- there is a check of length r
-unfoldable pub checkLength : ℕ → Bool
-checkLength r = eqb r 0 || (eqb r 6 || eqb r 11)
 
 -- a row has a word for the constant, and r rows behind the first m lie within the list
 unfoldable pub spaced : ℕ → ℕ → ℕ → ℕ → ℕ → Bool

@@ -24,7 +24,7 @@ pub fn check_rows(
     if !limits::fits(n, sheet.len(), r, c, w, us.len(), m, eqs.len()) {
         return false;
     }
-    let size = limits::size_of(n);
+    let size = sheet::size(n);
     let from = m * w;
     let to = (m + r) * w;
     register::write(sheet, size, us, w, c, r, &mut eqs[from..to]);

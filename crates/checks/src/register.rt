@@ -3,8 +3,6 @@
 ghost use mathlib.Core.Path.{_≡_};
 ghost use Prim.Native.Nat.{_+_, _*_, _<_, _≤_};
 ghost use lib.ListN.{length, replicate};
-ghost use Rattle.meaning.specs.Limits.{recordBytes};
-ghost use Rattle.meaning.specs.Sheet.{byte};
 ghost use Rattle.checks.specs.Registers.{unitWord, slot, turned, plusAt, tapped, fed, remainder, Put, ColumnsUpTo};
 use super::limits;
 
@@ -57,14 +55,6 @@ fn feed(reg: &mut [u64], h: usize, b: u64) -> usize
     g
 }
 
-// Byte 0 of record i: 0 for a free position.
-fn kind(sheet: &[u8], i: usize) -> u8
-    requires { ⌜ (i + 1) * recordBytes ≤ length (now sheet) ⌝ }
-    ensures { λ t. ⌜ t ≡ byte (now (sheet .entry)) i 0 ⌝ }
-{
-    sheet[i * meaning::limits::RECORD]
-}
-
 // Word k of the constant's row.
 fn unit_word(c: usize, k: usize) -> u64
     ensures { λ x. ⌜ x ≡ unitWord c k ⌝ }
@@ -95,14 +85,14 @@ fn divide(
     k: usize,
 ) -> usize
     requires { ⌜ 0 < length (now reg) ⌝ }
-    requires { ⌜ (length (now reg) ≤ 11) × (size * recordBytes ≤ length (now sheet)) × (length (now us) ≡ size * w) × (k < w) ⌝ }
+    requires { ⌜ (length (now reg) ≤ 11) × (length (now us) ≡ size * w) × (k < w) ⌝ }
     ensures { λ h. ⌜ (h < length (now (reg .entry))) × (turned (now (reg .exit)) h ≡ remainder (length (now (reg .entry))) (now (sheet .entry)) size (now (us .entry)) w c k) ⌝ }
 {
     start(reg, unit_word(c, k));
     let mut h = 0;
     let mut i = 0;
     while i < size {
-        if kind(sheet, i) == 0 {
+        if sheet::is_free(sheet, i) {
             h = feed(reg, h, us[i * w + k]);
         }
         i += 1;
@@ -134,7 +124,7 @@ fn columns(
     out: &mut [u64],
 )
     requires { ⌜ 0 < length (now reg) ⌝ }
-    requires { ⌜ (length (now reg) ≤ 11) × (size * recordBytes ≤ length (now sheet)) × (length (now us) ≡ size * w) × (length (now out) ≡ length (now reg) * w) ⌝ }
+    requires { ⌜ (length (now reg) ≤ 11) × (length (now us) ≡ size * w) × (length (now out) ≡ length (now reg) * w) ⌝ }
     ensures { λ _. ⌜ ColumnsUpTo (length (now (reg .entry))) w (remainder (length (now (reg .entry))) (now (sheet .entry)) size (now (us .entry)) w c) w (now (out .exit)) ⌝ }
 {
     let mut k = 0;
@@ -147,7 +137,7 @@ fn columns(
 
 // The same for a check of length r, with a register of its own; nothing where there is no check.
 pub fn write(sheet: &[u8], size: usize, us: &[u64], w: usize, c: usize, r: usize, out: &mut [u64])
-    requires { ⌜ (r ≤ 11) × (size * recordBytes ≤ length (now sheet)) × (length (now us) ≡ size * w) × (length (now out) ≡ r * w) ⌝ }
+    requires { ⌜ (r ≤ 11) × (length (now us) ≡ size * w) × (length (now out) ≡ r * w) ⌝ }
     ensures { λ _. ⌜ ColumnsUpTo r w (remainder r (now (sheet .entry)) size (now (us .entry)) w c) w (now (out .exit)) ⌝ }
 {
     if r == 0 {

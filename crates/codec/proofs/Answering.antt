@@ -1,8 +1,6 @@
 -- The answers of encode and read-back, in the values that the code has.
---     Passed, passed               a sheet that is not refused, with N and K
---     encode-sheet, encode-word    encode: the fault of the sheet, or of the payload and the output
---     encode-refused, accepted     encode: refused, or not
---     read-sheet, read-word, read-refused, reads    read-back: the same
+--     encode-fault, encode-refused, accepted     encode: its fault of form; refused, or not
+--     read-fault, read-refused, reads            read-back: the same
 use mathlib.Core.Path.{_≡_, refl, sym, ap, ap₂, _∙_, subst}
 use Prim.Native.Nat.{ℕ, _+_, _-_, _*_, _/_, _^_, _≤_}
 use native.Mathlib.Omega.{arith}
@@ -17,19 +15,18 @@ use Rattle.meaning.specs.Sheet.{Rule, free, frozen, ruleAt, rules, frees, early
 use Rattle.meaning.specs.Check.{freeBits, keeps}
 use Rattle.meaning.specs.Codewords.{payloadOf}
 use Rattle.meaning.specs.Payload.{encoded}
-use Rattle.meaning.specs.Answers.{isDone, isOne, checking, wording, refuses, sheetRefusals, wordRefusals, encodeRefusals, readRefusals, leaving, writing, encoding, readingBack}
+use Rattle.meaning.specs.Answers.{isDone, isOne, refuses, fault, sheetRefusals, wordRefusals, callRefusals, encodeRefusals, readRefusals, leaving, writing, encoding, readingBack}
 use Rattle.meaning.specs.declared.Answer.{Answer}
 use Rattle.meaning.specs.declared.Answer.the-variants.{Done, Inconsistent}
-use Rattle.meaning.proofs.Refusals.{tried-done, tried-refused, tried-all, past-none, none-append}
-use Rattle.meaning.proofs.Forms.{Good, good, checked-none, Worded, worded, bits-back}
+use Rattle.meaning.proofs.Refusals.{tried-done, tried-all, none-append}
+use Rattle.meaning.proofs.Forms.{Good, good, Worded, worded, bits-back}
 use Rattle.meaning.proofs.Polar.{length-polar}
 use Rattle.meaning.proofs.Sound.{length-rules}
 use Rattle.meaning.proofs.Encode.{length-free}
 use Rattle.meaning.proofs.ReadBack.{encode-is, read-is}
-use Rattle.codec.specs.Ready.{AreBits}
-use Rattle.codec.specs.Faults.{encodeFault, readFault}
-use Rattle.codec.specs.Ready.{Ready, Whole, Legible, Extracted}
-use Rattle.form.proofs.Records.{records-in}
+use Rattle.codec.specs.Ready.{AreBits, Encodable, Whole, Legible, Extracted}
+use Rattle.sheet.proofs.Records.{records-in}
+use Rattle.sheet.proofs.Calls.{size-is, count-is, call-same}
 use Rattle.codec.proofs.Sending.{bits-are}
 use Rattle.codec.proofs.Reading.{length-u, rules-u}
 
@@ -38,49 +35,19 @@ frees-le [] = omega arith
 frees-le (free ∷ ks) = omega (arith, frees-le ks)
 frees-le (frozen c m ∷ ks) = omega (arith, frees-le ks)
 
--- ---- a sheet that passed
+-- ---- the fault of form, by N and K as the code has them
 
-pub record Passed (n : ℕ) (s : List ℕ) (r k : ℕ) : Type 0 where
-  pub none : refuses (sheetRefusals n s r) ≡ false
-  pub count : k ≡ frees (rules n s)
-  pub enough : r ≤ k
+module _ (n : ℕ) (s : List ℕ) (r : ℕ) (w : List ℕ) (room k : ℕ) (ek : k ≡ frees (tab (length s / recordBytes) (ruleAt s))) (m : ℕ) (em : m ≡ k - r) (a : Answer) where
+  payload-is : refuses (sheetRefusals n s r) ≡ false → m ≡ frees (rules n s) - r
+  payload-is h = em ∙ ap (λ (j : ℕ). j - r) (ek ∙ count-is n s r h)
 
--- a table's answer, and whether it was done
-module _ (n : ℕ) (s : List ℕ) (r : ℕ) (a : Answer) (ea : a ≡ checking n s r) (b : Bool) (eb : b ≡ isDone a) where
-  done-is : (t : Bool) → b ≡ t → isDone (checking n s r) ≡ t
-  done-is t q = ap isDone (sym ea) ∙ sym eb ∙ q
+  pub encode-fault : a ≡ fault (callRefusals n s r m 1 (length s / recordBytes) w room) → a ≡ fault (encodeRefusals n s r w room)
+  unfolding encodeRefusals
+  encode-fault ea = ea ∙ call-same n s r m 1 (length s / recordBytes) w room (frees (rules n s) - r) (2 ^ n) (λ h. (payload-is h, size-is n s r h))
 
-  -- N and K, in the values that the code has
-  size-is : b ≡ true → length s / recordBytes ≡ 2 ^ n
-  size-is t = records-in (length s) (2 ^ n) ((good n s r (checked-none n s r (done-is true t))) .long)
-
-  pub passed : b ≡ true → (k : ℕ) → k ≡ frees (tab (length s / recordBytes) (ruleAt s)) → Passed n s r k
-  unfolding rules
-  passed t k ek =
-      let none = checked-none n s r (done-is true t) in
-      let count : k ≡ frees (rules n s) = ek ∙ ap (λ (m : ℕ). frees (tab m (ruleAt s))) (size-is t) in
-      record { none = none; count = count; enough = omega (arith, count, (good n s r none) .roomy) }
-
-  pub encode-sheet : (p : List ℕ) (room : ℕ) → b ≡ false → a ≡ encodeFault n s r p room
-  unfolding encodeFault checking
-  encode-sheet p room t = ea ∙ sym (tried-refused (λ (x : Answer). x) (sheetRefusals n s r) _ _ (done-is false t))
-
-  pub read-sheet : (w : List ℕ) (room : ℕ) → b ≡ false → a ≡ readFault n s r w room
-  unfolding readFault checking
-  read-sheet w room t = ea ∙ sym (tried-refused (λ (x : Answer). x) (sheetRefusals n s r) _ _ (done-is false t))
-
-  module _ (t : b ≡ true) (k : ℕ) (ek : k ≡ frees (tab (length s / recordBytes) (ruleAt s))) (w : List ℕ) (room : ℕ) (v : Answer) where
-    pub encode-word : v ≡ wording (k - r) 1 (length s / recordBytes) w room → v ≡ encodeFault n s r w room
-    unfolding encodeFault wording
-    encode-word ev =
-        let p = passed t k ek in
-        ev ∙ ap₂ (λ (x y : ℕ). wording (x - r) 1 y w room) (p .count) (size-is t) ∙ sym (past-none (λ (x : Answer). x) (sheetRefusals n s r) _ Done (p .none))
-
-    pub read-word : v ≡ wording (length s / recordBytes) 1 (k - r) w room → v ≡ readFault n s r w room
-    unfolding readFault wording
-    read-word ev =
-        let p = passed t k ek in
-        ev ∙ ap₂ (λ (x y : ℕ). wording y 1 (x - r) w room) (p .count) (size-is t) ∙ sym (past-none (λ (x : Answer). x) (sheetRefusals n s r) _ Done (p .none))
+  pub read-fault : a ≡ fault (callRefusals n s r (length s / recordBytes) 1 m w room) → a ≡ fault (readRefusals n s r w room)
+  unfolding readRefusals
+  read-fault ea = ea ∙ call-same n s r (length s / recordBytes) 1 m w room (2 ^ n) (frees (rules n s) - r) (λ h. (size-is n s r h, payload-is h))
 
 -- K is at most the largest N
 frees-low : (n : ℕ) (s : List ℕ) (r : ℕ) → Good n s r → frees (rules n s) ≤ 2 ^ largestN
@@ -89,23 +56,23 @@ frees-low n s r g = omega (arith, frees-le (rules n s), length-rules n s, pow-mo
 -- ---- encode
 
 pub record Accepted (n : ℕ) (s : List ℕ) (r : ℕ) (p out : List ℕ) : Type 0 where
-  pub ready : (m : ℕ) → m ≡ length p + r → Ready n s r p m
+  pub ready : (m : ℕ) → m ≡ length p + r → Encodable n s r p m
   pub fits : length p + r ≤ 2 ^ largestN
   pub length-is : length s / recordBytes ≡ 2 ^ n
   pub roomy : length s / recordBytes ≤ length out
   pub sent : (x : List ℕ) (m : ℕ) → m ≡ length x → x ≡ map bit (polar n (encoded (rules n s) r (map isOne p))) → leaving (x ++ drop m out) Done ≡ encoding n s r p out
 
-module _ (n : ℕ) (s : List ℕ) (r : ℕ) (p out : List ℕ) (a : Answer) (ea : a ≡ encodeFault n s r p (length out)) (b : Bool) (eb : b ≡ isDone a) where
-  told-is : (t : Bool) → b ≡ t → isDone (encodeFault n s r p (length out)) ≡ t
+module _ (n : ℕ) (s : List ℕ) (r : ℕ) (p out : List ℕ) (a : Answer) (ea : a ≡ fault (encodeRefusals n s r p (length out))) (b : Bool) (eb : b ≡ isDone a) where
+  told-is : (t : Bool) → b ≡ t → isDone (fault (encodeRefusals n s r p (length out))) ≡ t
   told-is t q = ap isDone (sym ea) ∙ sym eb ∙ q
 
   pub encode-refused : b ≡ false → leaving out a ≡ encoding n s r p out
-  unfolding encoding encodeRefusals encodeFault
-  encode-refused q = ap (leaving out) ea ∙ sym (tried-all (leaving out) (encodeRefusals n s r p out) _ (told-is false q))
+  unfolding encoding encodeRefusals
+  encode-refused q = ap (leaving out) ea ∙ sym (tried-all (leaving out) (encodeRefusals n s r p (length out)) _ (told-is false q))
 
-  no-fault : b ≡ true → refuses (encodeRefusals n s r p out) ≡ false
-  unfolding encodeRefusals encodeFault sheetRefusals wordRefusals
-  no-fault q = tried-done (encodeRefusals n s r p out) refl (told-is true q)
+  no-fault : b ≡ true → refuses (encodeRefusals n s r p (length out)) ≡ false
+  unfolding encodeRefusals sheetRefusals wordRefusals
+  no-fault q = tried-done (encodeRefusals n s r p (length out)) refl (told-is true q)
 
   pub accepted : b ≡ true → Accepted n s r p out
   unfolding encodeRefusals
@@ -136,18 +103,18 @@ pub record Read (n : ℕ) (s : List ℕ) (r k : ℕ) (w out : List ℕ) : Type 0
   pub legible : (j : ℕ) → j ≡ k → Legible n s r w j
   pub told : (out′ : List ℕ) (b : Bool) (v : Answer) → Extracted n s r w (k - r) out out′ b → v ≡ pick b Done (Inconsistent 0 0) → leaving out′ v ≡ readingBack n s r w out
 
-module _ (n : ℕ) (s : List ℕ) (r : ℕ) (w out : List ℕ) (a : Answer) (ea : a ≡ readFault n s r w (length out)) (b : Bool) (eb : b ≡ isDone a) where
-  read-told : (t : Bool) → b ≡ t → isDone (readFault n s r w (length out)) ≡ t
+module _ (n : ℕ) (s : List ℕ) (r : ℕ) (w out : List ℕ) (a : Answer) (ea : a ≡ fault (readRefusals n s r w (length out))) (b : Bool) (eb : b ≡ isDone a) where
+  read-told : (t : Bool) → b ≡ t → isDone (fault (readRefusals n s r w (length out))) ≡ t
   read-told t q = ap isDone (sym ea) ∙ sym eb ∙ q
 
   pub read-refused : b ≡ false → leaving out a ≡ readingBack n s r w out
-  unfolding readingBack readRefusals readFault
-  read-refused q = ap (leaving out) ea ∙ sym (tried-all (leaving out) (readRefusals n s r w out) _ (read-told false q))
+  unfolding readingBack readRefusals
+  read-refused q = ap (leaving out) ea ∙ sym (tried-all (leaving out) (readRefusals n s r w (length out)) _ (read-told false q))
 
   module _ (q : b ≡ true) (k : ℕ) (ek : k ≡ frees (tab (length s / recordBytes) (ruleAt s))) where
-    none : refuses (readRefusals n s r w out) ≡ false
-    unfolding readRefusals readFault sheetRefusals wordRefusals
-    none = tried-done (readRefusals n s r w out) refl (read-told true q)
+    none : refuses (readRefusals n s r w (length out)) ≡ false
+    unfolding readRefusals sheetRefusals wordRefusals
+    none = tried-done (readRefusals n s r w (length out)) refl (read-told true q)
 
     sheet : Good n s r
     unfolding readRefusals

@@ -26,7 +26,7 @@ use Rattle.bits.proofs.WordBits.{hasBit-xor, zero-bit, bit-same, bit-other, odd
 use Rattle.meaning.specs.Limits.{maskBytes}
 use Rattle.meaning.specs.Sheet.{names, mask}
 use Rattle.meaning.specs.Answers.{isOne}
-use Rattle.masks.specs.Masks.{maskWords, Spelt}
+use Rattle.sheet.specs.Masks.{maskWords, Spelt}
 use Rattle.codec.specs.Packed.{valueAt, held, Holds, put}
 
 -- ---- two words
@@ -100,8 +100,7 @@ odd-nil [] = refl
 odd-nil (a ∷ m) = refl
 
 and-none : (a : Bool) → (a && false) ⊕ false ≡ false
-and-none true = refl
-and-none false = refl
+and-none a = ⊕-false (a && false) ∙ and-false a false refl
 
 -- what the values hold at each place decides
 odd-ext : (m u v : List Bool) → ((j : ℕ) → getD u j false ≡ getD v j false) → odd m u ≡ odd m v

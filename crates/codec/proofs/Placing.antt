@@ -12,16 +12,16 @@ use mathlib.Core.List.{List, [], _∷_, _++_, map, map-append, append-assoc, app
 use lib.ListN.{length, take, drop, getD, set, replicate, length-set, length-map, length-take, length-replicate, drop-of-length-le}
 use lib.Seq.{drop-cons, take-suc-set, take-all}
 use lib.Dec.{eqb}
-use borrow.Author.Tests.{eq-eqb, ne-eqb}
 use Rattle.bits.specs.Vectors.{_⊕_, bit, tab, odd}
-use Rattle.bits.proofs.Tests.{length-tab, tab-at}
+use Rattle.bits.proofs.Tests.{length-tab}
 use Rattle.meaning.specs.Limits.{maskBytes}
-use Rattle.meaning.specs.Sheet.{byte, mask, Rule, free, frozen, ruleAt, frees}
+use Rattle.meaning.specs.Sheet.{byte, mask, Rule, free, ruleAt, frees}
 use Rattle.meaning.specs.Check.{freeBits}
 use Rattle.meaning.specs.Payload.{place}
 use Rattle.meaning.specs.Answers.{isOne}
 use Rattle.division.proofs.Division.{bit-small}
-use Rattle.masks.specs.Masks.{maskWords}
+use Rattle.sheet.specs.Masks.{maskWords}
+use Rattle.sheet.proofs.Records.{rule-free, rule-frozen, rules-at, frees-free, frees-frozen}
 use Rattle.codec.specs.Packed.{held, Holds, put}
 use Rattle.codec.specs.Ready.{AreBits}
 use Rattle.codec.proofs.Packing.{holds-none, put-length, holds-more, odd-held}
@@ -36,29 +36,9 @@ getD-map f (x ∷ l) (suc i) a = getD-map f l i a
 is-bit : (l : List ℕ) (i : ℕ) → AreBits l → i < length l → getD l i 0 ≡ bit (isOne (getD l i 0))
 is-bit l i a h = ap (λ (m : List ℕ). getD m i 0) (sym a) ∙ getD-map bit (map isOne l) i false ∙ ap bit (getD-map isOne l i 0)
 
--- ---- the rule of a position
-
-rule-free : (s : List ℕ) (i : ℕ) → byte s i 0 ≡ 0 → ruleAt s i ≡ free
-unfolding ruleAt
-rule-free s i e = rw (eq-eqb (byte s i 0) 0 e)
-
-rule-frozen : (s : List ℕ) (i : ℕ) → (byte s i 0 ≡ 0 → ⊥) → ruleAt s i ≡ frozen (eqb (byte s i 1) 1) (mask s i)
-unfolding ruleAt
-rule-frozen s i e = rw (ne-eqb (byte s i 0) 0 e)
-
 module _ (s : List ℕ) (size : ℕ) where
   abbrev ks : List Rule
   ks = tab size (ruleAt s)
-
-  -- the rules from position i on
-  rules-at : (i : ℕ) → i < size → drop i ks ≡ ruleAt s i ∷ drop (suc i) ks
-  rules-at i h = drop-cons ks i free (omega (arith, length-tab size (ruleAt s))) ∙ ap {B = List Rule} (λ k. k ∷ drop (suc i) ks) (tab-at size (ruleAt s) i free h)
-
-  frees-free : (i : ℕ) → i < size → byte s i 0 ≡ 0 → frees (drop i ks) ≡ suc (frees (drop (suc i) ks))
-  frees-free i h e = ap frees (rules-at i h ∙ ap {B = List Rule} (λ k. k ∷ drop (suc i) ks) (rule-free s i e))
-
-  frees-frozen : (i : ℕ) → i < size → (byte s i 0 ≡ 0 → ⊥) → frees (drop i ks) ≡ frees (drop (suc i) ks)
-  frees-frozen i h e = ap frees (rules-at i h ∙ ap {B = List Rule} (λ k. k ∷ drop (suc i) ks) (rule-frozen s i e))
 
   -- ---- the vector that the rules give
 
@@ -112,23 +92,23 @@ module _ (s : List ℕ) (size : ℕ) where
           one-bit true = refl
           one-bit false = refl
 
-      pub free-room : byte s i 0 ≡ 0 → next < length f
-      free-room e = omega (arith, p .room, frees-free i h e)
+      pub free-room : eqb (byte s i 0) 0 ≡ true → next < length f
+      free-room e = omega (arith, p .room, frees-free s size i h refl e)
 
-      pub free-goes : size ≤ 8 * maskBytes → byte s i 0 ≡ 0 → (x : ℕ) → x ≡ bit (getD f next false) → Placing (set u i x) (put v i x) (next + 1) (i + 1)
+      pub free-goes : size ≤ 8 * maskBytes → eqb (byte s i 0) 0 ≡ true → (x : ℕ) → x ≡ bit (getD f next false) → Placing (set u i x) (put v i x) (next + 1) (i + 1)
       unfolding place
       free-goes small e x ex =
           goes small x (getD f next false) (next + 1) ex
-          (rw (rules-at i h, rule-free s i e, drop-cons f next false (free-room e), add-one next))
-          (omega (arith, p .room, frees-free i h e))
+          (rw (rules-at s size i h, rule-free s i refl e, drop-cons f next false (free-room e), add-one next))
+          (omega (arith, p .room, frees-free s size i h refl e))
 
-      pub frozen-goes : size ≤ 8 * maskBytes → (byte s i 0 ≡ 0 → ⊥) → (x : ℕ) → x ≡ bit (eqb (byte s i 1) 1 ⊕ odd (mask s i) (held v)) → Placing (set u i x) (put v i x) next (i + 1)
+      pub frozen-goes : size ≤ 8 * maskBytes → eqb (byte s i 0) 0 ≡ false → (x : ℕ) → x ≡ bit (eqb (byte s i 1) 1 ⊕ odd (mask s i) (held v)) → Placing (set u i x) (put v i x) next (i + 1)
       unfolding place
       frozen-goes small e x ex =
           let o : odd (mask s i) (held v) ≡ odd (mask s i) c = odd-held (mask s i) v c (p .holds) in
           goes small x (eqb (byte s i 1) 1 ⊕ odd (mask s i) c) next (ex ∙ ap (λ (y : Bool). bit (eqb (byte s i 1) 1 ⊕ y)) o)
-          (rw (rules-at i h, rule-frozen s i e))
-          (omega (arith, p .room, frees-frozen i h e))
+          (rw (rules-at s size i h, rule-frozen s i refl e))
+          (omega (arith, p .room, frees-frozen s size i h refl e))
 
     pub placed : (u v : List ℕ) (next i : ℕ) → size ≤ i → Placing u v next i → u ≡ map bit (place ks [] f)
     unfolding place
@@ -151,28 +131,28 @@ module _ (s : List ℕ) (size : ℕ) where
       values-at : drop i us ≡ isOne (getD u i 0) ∷ drop (suc i) us
       values-at = drop-cons us i false (omega (arith, length-map u isOne)) ∙ ap {B = List Bool} (λ b. b ∷ drop (suc i) us) (getD-map isOne u i 0)
 
-      pub take-room : byte s i 0 ≡ 0 → next < length fr
-      take-room e = omega (arith, p .room, frees-free i h e)
+      pub take-room : eqb (byte s i 0) 0 ≡ true → next < length fr
+      take-room e = omega (arith, p .room, frees-free s size i h refl e)
 
-      pub free-taken : byte s i 0 ≡ 0 → Taking (set fr next (getD u i 0)) (next + 1) (i + 1)
+      pub free-taken : eqb (byte s i 0) 0 ≡ true → Taking (set fr next (getD u i 0)) (next + 1) (i + 1)
       free-taken e =
           let x : ℕ = getD u i 0 in
           let hn : next < length fr = take-room e in
-          let cut : freeBits (drop i ks) (drop i us) ≡ isOne x ∷ freeBits (drop (suc i) ks) (drop (suc i) us) = rw (rules-at i h, rule-free s i e, values-at) in
+          let cut : freeBits (drop i ks) (drop i us) ≡ isOne x ∷ freeBits (drop (suc i) ks) (drop (suc i) us) = rw (rules-at s size i h, rule-free s i refl e, values-at) in
           record {
             low = omega arith;
-            room = rw (add-one i) (omega (arith, p .room, frees-free i h e, length-set fr next x));
+            room = rw (add-one i) (omega (arith, p .room, frees-free s size i h refl e, length-set fr next x));
             left =
                 rw (add-one i, add-one next, take-suc-set fr next x)
                 (append-assoc (take next fr) (x ∷ []) _ ∙ ap (λ (l : List ℕ). take next fr ++ l) (ap {B = List ℕ} (λ y. y ∷ map bit (freeBits (drop (suc i) ks) (drop (suc i) us))) (is-bit u i au (omega arith)) ∙ ap (map bit) (sym cut)) ∙ p .left);
           }
 
-      pub frozen-passed : (byte s i 0 ≡ 0 → ⊥) → Taking fr next (i + 1)
+      pub frozen-passed : eqb (byte s i 0) 0 ≡ false → Taking fr next (i + 1)
       frozen-passed e =
-          let cut : freeBits (drop i ks) (drop i us) ≡ freeBits (drop (suc i) ks) (drop (suc i) us) = rw (rules-at i h, rule-frozen s i e, values-at) in
+          let cut : freeBits (drop i ks) (drop i us) ≡ freeBits (drop (suc i) ks) (drop (suc i) us) = rw (rules-at s size i h, rule-frozen s i refl e, values-at) in
           record {
             low = omega arith;
-            room = rw (add-one i) (omega (arith, p .room, frees-frozen i h e));
+            room = rw (add-one i) (omega (arith, p .room, frees-frozen s size i h refl e));
             left = rw (add-one i) (ap (λ (l : List Bool). take next fr ++ map bit l) (sym cut) ∙ p .left);
           }
 

@@ -23,14 +23,14 @@ use Rattle.polar.specs.Bytes.{transformed}
 use Rattle.polar.proofs.Transforming.{transformed-is, polar-bytes}
 use Rattle.division.specs.Division.{appending}
 use Rattle.division.proofs.Checking.{fitting-is, appending-is}
-use Rattle.codec.specs.Ready.{AreBits, Ready}
+use Rattle.codec.specs.Ready.{AreBits, Encodable}
 
 -- ---- the vector that the rules give, and its transform
 
 pub bits-are : (b : List Bool) → AreBits (map bit b)
 bits-are b = ap (map bit) (ones-back b)
 
-module _ (n : ℕ) (s : List ℕ) (r : ℕ) (p : List ℕ) (k : ℕ) (ok : Ready n s r p k) where
+module _ (n : ℕ) (s : List ℕ) (r : ℕ) (p : List ℕ) (k : ℕ) (ok : Encodable n s r p k) where
   -- N positions fit the mask
   pub within : (m : ℕ) → m ≡ 2 ^ n → m ≤ 8 * maskBytes
   unfolding largestN maskBytes

@@ -1,6 +1,6 @@
 -- What is known once nothing is refused.
 --     AreBits    the bytes are 0 or 1
---     Ready      a good sheet with K free positions, and a payload of K - r bits
+--     Encodable    a good sheet with K free positions, and a payload of K - r bits
 --     Legible    a good sheet for a word with nothing erased
 --     Extracted  what is left in the output: the payload of a codeword, or nothing new
 --     Whole      a good sheet for a vector of bits, with K places for its free bits
@@ -21,7 +21,7 @@ use Rattle.meaning.specs.Answers.{isOne}
 abbrev pub AreBits : List ℕ → Type 0
 AreBits l = map bit (map isOne l) ≡ l
 
-pub record Ready (n : ℕ) (s : List ℕ) (r : ℕ) (p : List ℕ) (k : ℕ) : Type 0 where
+pub record Encodable (n : ℕ) (s : List ℕ) (r : ℕ) (p : List ℕ) (k : ℕ) : Type 0 where
   pub small : n ≤ largestN
   pub long : length s ≡ 2 ^ n * recordBytes
   pub check : (r ≡ 0) ⊎ ((r ≡ 6) ⊎ (r ≡ 11))

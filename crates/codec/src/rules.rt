@@ -10,18 +10,10 @@ ghost use Rattle.meaning.specs.Sheet.{byte, mask, ruleAt, frees};
 ghost use Rattle.meaning.specs.Check.{freeBits};
 ghost use Rattle.meaning.specs.Payload.{place};
 ghost use Rattle.meaning.specs.Answers.{isOne};
-ghost use Rattle.masks.specs.Masks.{maskWords};
+ghost use Rattle.sheet.specs.Masks.{maskWords};
 ghost use Rattle.codec.specs.Packed.{held, put};
 ghost use Rattle.codec.specs.Ready.{AreBits, Tells};
 use meaning::limits;
-
-// Byte k of record i.
-fn byte_at(sheet: &[u8], i: usize, k: usize) -> u8
-    requires { ⌜ (k < recordBytes) × ((i + 1) * recordBytes ≤ length (now sheet)) ⌝ }
-    ensures { λ r. ⌜ r ≡ byte (now (sheet .entry)) i k ⌝ }
-{
-    sheet[i * limits::RECORD + k]
-}
 
 // A byte as a word.
 fn wide(x: u8) -> u64
@@ -37,8 +29,8 @@ fn odd_named(sheet: &[u8], i: usize, values: &[u64]) -> u8
 {
     let mut o: u8 = 0;
     let mut k = 0;
-    while k < masks::WORDS {
-        o = o ^ bits::parity(masks::word(sheet, i, k), values[k]);
+    while k < sheet::MASK_WORDS {
+        o = o ^ bits::parity(sheet::mask_word(sheet, i, k), values[k]);
         k += 1;
     }
     o
@@ -50,7 +42,11 @@ fn rule_bit(sheet: &[u8], i: usize, values: &[u64]) -> u8
     ensures { λ r. ⌜ r ≡ bit (eqb (byte (now (sheet .entry)) i 1) 1 ⊕ odd (mask (now (sheet .entry)) i) (held (now (values .entry)))) ⌝ }
 {
     let o = odd_named(sheet, i, values);
-    if byte_at(sheet, i, 1) == 1 { o ^ 1 } else { o }
+    if sheet::byte(sheet, i, 1) == 1 {
+        o ^ 1
+    } else {
+        o
+    }
 }
 
 // Puts the value b of position i in.
@@ -67,12 +63,12 @@ pub fn place_bits(sheet: &[u8], free: &[u8], u: &mut [u8])
     requires { ⌜ AreBits (now free) × (length (now free) ≡ frees (tab (length (now u)) (ruleAt (now sheet)))) ⌝ }
     ensures { λ _. ⌜ now (u .exit) ≡ map bit (place (tab (length (now (u .entry))) (ruleAt (now (sheet .entry)))) [] (map isOne (now (free .entry)))) ⌝ }
 {
-    let mut values = [0u64; masks::WORDS];
+    let mut values = [0u64; sheet::MASK_WORDS];
     let mut next = 0;
     let mut i = 0;
     while i < u.len() {
         let mut b = 0;
-        if byte_at(sheet, i, 0) == 0 {
+        if sheet::is_free(sheet, i) {
             b = free[next];
             next += 1;
         } else {
@@ -93,7 +89,7 @@ pub fn take_free(sheet: &[u8], u: &[u8], free: &mut [u8])
     let mut next = 0;
     let mut i = 0;
     while i < u.len() {
-        if byte_at(sheet, i, 0) == 0 {
+        if sheet::is_free(sheet, i) {
             free[next] = u[i];
             next += 1;
         }

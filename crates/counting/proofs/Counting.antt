@@ -3,7 +3,6 @@
 --     spread-swapped, spread-kept            two slots h apart
 --     spread-start, spread-turn, spread-end  the loop over both halves
 --     map-tab                                a list by place
---     rule-free, rule-frozen, first-byte     a record's kind, by its first byte
 --     one-.., counts-one, counts-halves      the count of one position, and of a block by its halves
 --     counts-most, counts-none               no more than positions; none where nothing is erased
 --     counts-word                            of a whole word it is the number of unknowns
@@ -11,24 +10,24 @@
 --     load-turn, load-end                    a word copied symbol by symbol
 use mathlib.Core.Path.{_≡_, refl, sym, ap, ap₂, _∙_}
 use mathlib.Core.Logic.{_⊎_, inl, inr}
-use Prim.Native.Nat.{ℕ, zero, suc, _+_, _*_, _^_, _≤_, _<_}
+use Prim.Native.Nat.{ℕ, zero, suc, _+_, _^_, _≤_, _<_}
 use native.Mathlib.Omega.{arith}
 use native.Mathlib.Nat.{zero-add, add-zero, eq-or-lt-of-le}
 use native.Mathlib.Numerals.{add-one}
-use mathlib.Core.Bool.{Bool, true, false, _&&_, _||_}
+use mathlib.Core.Bool.{Bool, true, false, _&&_, _||_, not}
 use mathlib.Core.List.{List, [], _∷_, _++_, map}
 use lib.ListN.{length, take, drop, set, getD, length-set, length-drop, length-map}
 use lib.Seq.{getD-set-same, getD-set-other, getD-take, getD-drop, length-take-le, take-all, take-suc-set, take-suc}
 use lib.Dec.{eqb}
-use borrow.Author.Tests.{eq-eqb, ne-eqb}
+use borrow.Author.Tests.{not-true, not-false}
 use Rattle.bits.specs.Vectors.{bit, any, tab, ones}
 use Rattle.bits.proofs.Tests.{or-false-l, or-false-r, count-append, count-le, length-tab, tab-below, tab-ext, tab-append}
-use Rattle.meaning.specs.Limits.{recordBytes}
-use Rattle.meaning.specs.Sheet.{Rule, free, frozen, byte, mask, ruleAt, rules}
+use Rattle.meaning.specs.Sheet.{Rule, free, frozen, byte, ruleAt, rules}
 use Rattle.meaning.specs.Codewords.{erased}
 use Rattle.meaning.specs.Open.{either, both, opens, openFree, openAll, unknowns}
 use Rattle.meaning.proofs.Open.{opens-append, length-opens, ones-opens, open-list}
 use Rattle.meaning.proofs.Gap.{length-openFree, openFree-le}
+use Rattle.sheet.proofs.Records.{rule-free, rule-frozen}
 use Rattle.counting.specs.Halves.{lostAt, SpreadOne, Spread, rulesFrom, openOne, openFrees}
 
 -- ---- one symbol
@@ -231,28 +230,15 @@ counts-word sheet word n l =
 
 -- ---- one position, by its record
 
-module _ (sheet : List ℕ) (at k : ℕ) (e : k ≡ byte sheet at 0) where
-  pub rule-free : k ≡ 0 → ruleAt sheet at ≡ free
-  unfolding ruleAt
-  rule-free z = rw (eq-eqb (byte sheet at 0) 0 (sym e ∙ z)) refl
+module _ (sheet : List ℕ) (at s : ℕ) {b : Bool} (e : b ≡ eqb (byte sheet at 0) 0) where
+  pub one-frozen : not b ≡ true → 0 ≡ openOne (ruleAt sheet at) s
+  one-frozen z = rw (rule-frozen sheet at e (not-true b z))
 
-  pub rule-frozen : (k ≡ 0 → ⊥) → ruleAt sheet at ≡ frozen (eqb (byte sheet at 1) 1) (mask sheet at)
-  unfolding ruleAt
-  rule-frozen z = rw (ne-eqb (byte sheet at 0) 0 (λ q. z (e ∙ q))) refl
+  pub one-open : not b ≡ false → 1 < s → 1 ≡ openOne (ruleAt sheet at) s
+  one-open z h = rw (rule-free sheet at e (not-false b z)) (ap bit (sym (above-lost s h)))
 
--- its first byte, as the code reads it
-pub first-byte : (sheet : List ℕ) (at : ℕ) → getD sheet (at * recordBytes) 0 ≡ byte sheet at 0
-first-byte sheet at = ap (λ (i : ℕ). getD sheet i 0) (sym (add-zero (at * recordBytes)))
-
-module _ (sheet : List ℕ) (at k s : ℕ) (e : k ≡ byte sheet at 0) where
-  pub one-frozen : (k ≡ 0 → ⊥) → 0 ≡ openOne (ruleAt sheet at) s
-  one-frozen z = rw (rule-frozen sheet at k e z)
-
-  pub one-open : k ≡ 0 → 1 < s → 1 ≡ openOne (ruleAt sheet at) s
-  one-open z h = rw (rule-free sheet at k e z) (ap bit (sym (above-lost s h)))
-
-  pub one-closed : k ≡ 0 → s ≤ 1 → 0 ≡ openOne (ruleAt sheet at) s
-  one-closed z h = rw (rule-free sheet at k e z) (ap bit (sym (below-read s h)))
+  pub one-closed : not b ≡ false → s ≤ 1 → 0 ≡ openOne (ruleAt sheet at) s
+  one-closed z h = rw (rule-free sheet at e (not-false b z)) (ap bit (sym (below-read s h)))
 
 -- ---- the search for an erased symbol
 

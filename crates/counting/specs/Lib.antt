@@ -1,5 +1,5 @@
 -- What the count of the unknowns promises, and the steps by which it is proved.
---     Counting     what `shaped` and `unknowns` promise
+--     Counting     what `unknowns` promises
 --     Halves       the steps of the count
 pub mod Counting
 pub mod Halves

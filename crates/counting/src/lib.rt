@@ -1,38 +1,16 @@
 // The number of unknowns of a word, from what is erased alone: its open free positions, by halves. A symbol above 1 is
-// erased. Also the test of the lengths of a sheet and a word.
+// erased.
 ghost use mathlib.Core.Path.{_≡_};
 ghost use Prim.Native.Nat.{_+_, _*_, _^_, _≤_, _<_};
 ghost use lib.ListN.{length};
 ghost use Rattle.bits.specs.Vectors.{any};
-ghost use Rattle.meaning.specs.Limits.{largestN, recordBytes, maskBytes};
+ghost use Rattle.meaning.specs.Limits.{maskBytes};
 ghost use Rattle.meaning.specs.Sheet.{ruleAt, rules};
 ghost use Rattle.meaning.specs.Codewords.{erased};
 ghost use Rattle.meaning.specs.Open.{unknowns};
-ghost use Rattle.counting.specs.Counting.{shaped, counting};
+ghost use Rattle.counting.specs.Counting.{counting};
 ghost use Rattle.counting.specs.Halves.{SpreadOne, Spread, openOne, openFrees};
 use meaning::limits;
-
-// N, 2 to the n.
-fn size_of(n: usize) -> usize
-    requires { ⌜ n ≤ largestN ⌝ }
-    ensures { λ r. ⌜ r ≡ 2 ^ n ⌝ }
-{
-    1 << n
-}
-
-// Whether a sheet and a word of these lengths have N records and N symbols, n at most limits::LARGEST_N.
-pub fn shaped(n: usize, sheet: usize, word: usize) -> bool
-    ensures { λ r. ⌜ r ≡ shaped n sheet word ⌝ }
-{
-    if limits::LARGEST_N < n {
-        return false;
-    }
-    let size = size_of(n);
-    if sheet != size * limits::RECORD {
-        return false;
-    }
-    word == size
-}
 
 // Symbols j and h + j change places where the right one is larger: the left one is then erased where one of them was, and
 // the right one where both were.
@@ -77,10 +55,9 @@ fn some_lost(marks: &[u8]) -> bool
 
 // 1 if position `at` is free and its symbol s is erased, else 0.
 fn one(sheet: &[u8], at: usize, s: u8) -> usize
-    requires { ⌜ (at + 1) * recordBytes ≤ length (now sheet) ⌝ }
     ensures { λ r. ⌜ r ≡ openOne (ruleAt (now (sheet .entry)) at) s ⌝ }
 {
-    if sheet[at * limits::RECORD] != 0 {
+    if !sheet::is_free(sheet, at) {
         return 0;
     }
     if s > 1 { 1 } else { 0 }
@@ -88,7 +65,7 @@ fn one(sheet: &[u8], at: usize, s: u8) -> usize
 
 // The open free positions of a block of 2 to the k symbols whose first position is `at`. Where nothing is erased there is none.
 fn block(marks: &mut [u8], sheet: &[u8], at: usize, k: usize) -> usize
-    requires { ⌜ (length (now marks) ≡ 2 ^ k) × ((at + length (now marks)) * recordBytes ≤ length (now sheet)) ⌝ }
+    requires { ⌜ (length (now marks) ≡ 2 ^ k) × (at + length (now marks) ≤ 8 * maskBytes) ⌝ }
     ensures { λ r. ⌜ r ≡ openFrees (now (sheet .entry)) at k (now (marks .entry)) ⌝ }
 {
     if k == 0 {
@@ -118,7 +95,7 @@ fn load(marks: &mut [u8], word: &[u8])
 
 // The unknowns of a word, in a slice as long as it.
 fn count(marks: &mut [u8], sheet: &[u8], word: &[u8], n: usize) -> usize
-    requires { ⌜ (length (now marks) ≡ length (now word)) × (length (now word) ≡ 2 ^ n) × (length (now word) * recordBytes ≤ length (now sheet)) ⌝ }
+    requires { ⌜ (length (now marks) ≡ length (now word)) × (length (now word) ≡ 2 ^ n) × (length (now word) ≤ 8 * maskBytes) ⌝ }
     ensures { λ r. ⌜ r ≡ unknowns n (rules n (now (sheet .entry))) (now (word .entry)) ⌝ }
 {
     load(marks, word);
@@ -127,7 +104,7 @@ fn count(marks: &mut [u8], sheet: &[u8], word: &[u8], n: usize) -> usize
 
 // The unknowns of a word that has N symbols, under a sheet of N records.
 fn within(n: usize, sheet: &[u8], word: &[u8]) -> usize
-    requires { ⌜ (length (now word) ≡ 2 ^ n) × (length (now word) ≤ 8 * maskBytes) × (length (now word) * recordBytes ≤ length (now sheet)) ⌝ }
+    requires { ⌜ (length (now word) ≡ 2 ^ n) × (length (now word) ≤ 8 * maskBytes) ⌝ }
     ensures { λ r. ⌜ r ≡ unknowns n (rules n (now (sheet .entry))) (now (word .entry)) ⌝ }
 {
     let mut marks: [u8; limits::POSITIONS] = [0; limits::POSITIONS];
@@ -141,7 +118,10 @@ fn within(n: usize, sheet: &[u8], word: &[u8]) -> usize
 pub fn unknowns(n: usize, sheet: &[u8], word: &[u8]) -> usize
     ensures { λ r. ⌜ r ≡ counting n (now (sheet .entry)) (now (word .entry)) ⌝ }
 {
-    if !shaped(n, sheet.len(), word.len()) {
+    if !sheet::shaped(n, sheet.len(), word.len()) {
+        return 0;
+    }
+    if !some_lost(word) {
         return 0;
     }
     within(n, sheet, word)

@@ -17,11 +17,11 @@ use lib.Dec.{eqb}
 use lib.Pow.{pow-pos}
 use lib.Bits.{bitXor, xor-block, xor-lt}
 use borrow.Author.Tests.{eq-eqb, ne-eqb}
-use Rattle.bits.specs.Vectors.{_⊕_, _⊞_, bit, zeros}
+use Rattle.bits.specs.Vectors.{_⊞_, bit, zeros}
 use Rattle.bits.specs.Words.{bitAt}
 use Rattle.bits.proofs.Xor.{⊞-none}
 use Rattle.bits.proofs.Words.{bit-xor}
-use Rattle.bits.proofs.WordBits.{bit-suc}
+use Rattle.bits.proofs.WordBits.{bit-suc, one-xor}
 use Rattle.meaning.specs.Limits.{leads}
 use Rattle.meaning.specs.Check.{poly, shift, rest, divides}
 use Rattle.meaning.specs.Payload.{remainder}
@@ -37,20 +37,11 @@ unfolding toBits
 length-toBits zero s = refl
 length-toBits (suc r) s = ap suc (length-toBits r s)
 
-odd-sum : (x y : ℕ) → x < 2 → y < 2 → eqb ((x + y) % 2) 1 ≡ eqb x 1 ⊕ eqb y 1
-odd-sum zero zero p q = refl
-odd-sum zero (suc zero) p q = refl
-odd-sum (suc zero) zero p q = refl
-odd-sum (suc zero) (suc zero) p q = refl
-odd-sum zero (suc (suc y)) p q = absurd (omega arith)
-odd-sum (suc zero) (suc (suc y)) p q = absurd (omega arith)
-odd-sum (suc (suc x)) y p q = absurd (omega arith)
-
 toBits-xor : (r a b : ℕ) → toBits r (bitXor a b) ≡ toBits r a ⊞ toBits r b
 unfolding toBits
 toBits-xor zero a b = refl
 toBits-xor (suc r) a b =
-    ap₂ {C = List Bool} _∷_ (ap (λ (x : ℕ). eqb x 1) (bit-xor a b r) ∙ odd-sum (bitAt a r) (bitAt b r) (mod-lt (a / 2 ^ r) (omega arith)) (mod-lt (b / 2 ^ r) (omega arith))) (toBits-xor r a b)
+    ap₂ {C = List Bool} _∷_ (ap (λ (x : ℕ). eqb x 1) (bit-xor a b r) ∙ one-xor (bitAt a r) (bitAt b r) (mod-lt (a / 2 ^ r) (omega arith)) (mod-lt (b / 2 ^ r) (omega arith))) (toBits-xor r a b)
 
 pub bit-small : (b : Bool) → bit b < 2
 bit-small true = omega arith

@@ -6,7 +6,7 @@
 use mathlib.Core.Path.{_≡_, refl, sym, ap, ap₂, _∙_}
 use Prim.Native.Nat.{ℕ, zero, suc, _+_, _-_, _/_, _^_, _<_, _≤_}
 use native.Mathlib.Omega.{arith}
-use native.Mathlib.Nat.{pow-suc, suc-inj}
+use native.Mathlib.Nat.{suc-inj}
 use native.Mathlib.Numerals.{add-one}
 use mathlib.Core.Bool.{Bool, false}
 use mathlib.Core.List.{List, [], _∷_, _++_, map, map-append, append-nil}
@@ -17,6 +17,7 @@ use lib.Bits.{bitXor}
 use lib.Dec.{eqb}
 use borrow.Author.Tests.{eq-eqb, ne-eqb}
 use borrow.Rule.Slice.PartMut.{putMid}
+use Rattle.bits.proofs.Parts.{two-pow}
 use Rattle.bits.specs.Vectors.{_⊞_, bit}
 use Rattle.bits.proofs.Words.{xor-bit}
 use Rattle.meaning.specs.Transform.{polar}
@@ -60,12 +61,6 @@ module _ (l₀ : List ℕ) (h : ℕ) (two : length l₀ ≡ h + h) where
       sym (take-append-drop h l) ∙ ap₂ _++_ (sym (xor-end (take h l) (drop h l₀) i a) ∙ t) d
 
 -- ---- the recursion
-
-pub two-pow : (n : ℕ) → 0 < n → 2 ^ n ≡ 2 ^ (n - 1) + 2 ^ (n - 1)
-two-pow zero p = absurd (omega arith)
-two-pow (suc m) p =
-    let q : suc m - 1 ≡ m = omega arith in
-    rw q (pow-suc 2 m ∙ omega arith)
 
 pub half : (l : List ℕ) (n : ℕ) → 0 < n → length l ≡ 2 ^ n → length l / 2 ≡ 2 ^ (n - 1)
 half l n p e = omega (arith, two-pow n p)

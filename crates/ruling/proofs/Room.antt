@@ -17,7 +17,7 @@ use Rattle.bits.proofs.Tests.{and-l, and-r}
 use Rattle.meaning.specs.Limits.{recordBytes, maskBytes}
 use Rattle.meaning.specs.Sheet.{byte, mask}
 use Rattle.model.specs.Model.{ruleValue}
-use Rattle.ruling.specs.Values.{rowValues}
+use Rattle.model.specs.RowValues.{rowValues}
 use Rattle.ruling.specs.Ruling.{fitting, ruled}
 
 no-record : (sheet at : ℕ) → sheet / recordBytes ≤ at → sheet < (at + 1) * recordBytes

@@ -21,12 +21,14 @@ use Rattle.bits.specs.Rows.{Row, _⊻_, part, row, rows, zeroed, added}
 use Rattle.bits.specs.Words.{hasBit}
 use Rattle.bits.proofs.Tests.{le-or-lt}
 use Rattle.bits.proofs.WordBits.{zero-bit, leading-bit, shl-bit, shl-low}
-use Rattle.bits.proofs.RowLaws.{length-⊻, ⊻-comm, nought-⊻, one-⊻, length-part, getD-part, paste-part, paste-again, paste-set, paste-all, row-fit, length-written, zeroed-fits, added-fits}
+use Rattle.bits.proofs.RowLaws.{length-part, getD-part, row-fit}
+use Rattle.bits.proofs.RowXor.{length-⊻, ⊻-comm, nought-⊻, one-⊻}
+use Rattle.bits.proofs.RowsWritten.{paste-part, paste-again, paste-set, paste-all, length-written, zeroed-fits, added-fits}
 use Rattle.meaning.specs.Limits.{maskBytes}
 use Rattle.meaning.specs.Sheet.{byte, names, mask}
-use Rattle.masks.specs.Masks.{Spelt}
+use Rattle.sheet.specs.Masks.{Spelt}
 use Rattle.model.specs.Model.{gate, named, ruleValue}
-use Rattle.ruling.specs.Values.{unitRow, unknownRow, rowValues}
+use Rattle.model.specs.RowValues.{unitRow, unknownRow, rowValues}
 use Rattle.ruling.specs.Ruling.{Gap}
 
 -- ---- tables

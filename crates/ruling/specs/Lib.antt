@@ -1,3 +1,2 @@
--- Values: rows as the decoder's values. Ruling: what `rule_row` promises.
-pub mod Values
+-- Ruling: what `rule_row` promises.
 pub mod Ruling

@@ -14,7 +14,7 @@ use Rattle.bits.specs.Rows.{rows}
 use Rattle.meaning.specs.Limits.{recordBytes, maskBytes}
 use Rattle.meaning.specs.Sheet.{byte, names, mask}
 use Rattle.model.specs.Model.{ruleValue}
-use Rattle.ruling.specs.Values.{rowValues}
+use Rattle.model.specs.RowValues.{rowValues}
 
 -- by the lengths of the list, of the rows and of the sheet
 unfoldable pub fitting : ℕ → ℕ → ℕ → ℕ → ℕ → ℕ → ℕ → Bool

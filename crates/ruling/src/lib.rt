@@ -9,11 +9,8 @@ ghost use Rattle.bits.specs.Rows.{rows};
 ghost use Rattle.meaning.specs.Limits.{recordBytes, maskBytes};
 ghost use Rattle.meaning.specs.Sheet.{byte, mask};
 ghost use Rattle.model.specs.Model.{named, ruleValue};
-ghost use Rattle.ruling.specs.Values.{unknownRow, rowValues};
+ghost use Rattle.model.specs.RowValues.{unknownRow, rowValues};
 ghost use Rattle.ruling.specs.Ruling.{fitting, ruled, Gap};
-
-mod record;
-
 use bits::rows;
 use meaning::limits;
 
@@ -34,7 +31,7 @@ fn unnamed_below(sheet: &[u8], at: usize, j: usize) -> usize
     ensures { λ r. ⌜ Gap (now (sheet .entry)) at j r ⌝ }
 {
     let top = (j - 1) % 64;
-    let m = masks::word(sheet, at, (j - 1) / 64) << (63 - top);
+    let m = sheet::mask_word(sheet, at, (j - 1) / 64) << (63 - top);
     if m == 0 {
         return top + 1;
     }
@@ -67,7 +64,7 @@ fn summed(d: &mut [u64], to: usize, us: &[u64], sheet: &[u8], at: usize, c: usiz
     ensures { λ _. ⌜ now (d .exit) ≡ paste (now (d .entry)) to (ruleValue (rowValues c w) (eqb (byte (now (sheet .entry)) at 1) 1) (mask (now (sheet .entry)) at) (rows w at (now (us .entry)))) w ⌝ }
 {
     named_row(d, to, us, sheet, at, w);
-    if record::byte_at(sheet, at, 1) == 1 {
+    if sheet::byte(sheet, at, 1) == 1 {
         d[to + c] = 1 ^ d[to + c];
     }
 }

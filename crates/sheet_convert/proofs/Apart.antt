@@ -8,15 +8,15 @@ use mathlib.Core.Logic.{⊎-elim}
 use Prim.Native.Nat.{ℕ, zero, suc, _+_, _*_, _/_, _%_, _^_, _<_}
 use native.Mathlib.Omega.{arith}
 use native.Mathlib.Nat.{add-mul, div-add-mod}
-use mathlib.Core.Bool.{Bool, true, false, _||_}
+use mathlib.Core.Bool.{true}
 use mathlib.Core.List.{List, [], _∷_}
 use lib.ListN.{length}
 use lib.Dec.{ltb}
 use borrow.Author.Tests.{ne-eqb, lt-ltb}
-use Rattle.bits.proofs.Tests.{le-or-lt}
+use Rattle.bits.proofs.Tests.{le-or-lt, or-true}
 use Rattle.meaning.specs.Limits.{layout, largestN, maskBytes, recordBytes, oldMaskBytes, oldRecordBytes}
 use Rattle.meaning.specs.Answers.{badShape, sheetRefusals, encodeRefusals, readRefusals, formRefusals, decodeRefusals, leaving, checking, encoding, readingBack, decoding}
-use Rattle.meaning.specs.Stream.{refusedRecord, sizeOf, records}
+use Rattle.meaning.specs.Stream.{refusedRecord, nOf, records}
 use Rattle.meaning.specs.declared.Answer.the-variants.{BadShape}
 use Rattle.meaning.proofs.Sizing.{size-right}
 
@@ -51,10 +51,6 @@ module _ (m : ℕ) (old : List ℕ) (long : length old ≡ 2 ^ m * oldRecordByte
     bad-shape : badShape n old ≡ true
     unfolding badShape
     bad-shape = rw (ne-eqb (length old) (2 ^ n * recordBytes) (never-both m n (length old) long)) (or-true (ltb largestN n))
-      where
-        or-true : (b : Bool) → b || true ≡ true
-        or-true true = refl
-        or-true false = refl
 
     pub check-old : (r : ℕ) → checking n old r ≡ BadShape
     unfolding checking sheetRefusals
@@ -74,10 +70,10 @@ module _ (m : ℕ) (old : List ℕ) (long : length old ≡ 2 ^ m * oldRecordByte
       decode-old c = rw bad-shape
 
   -- no n is found from its length
-  pub size-old : largestN < sizeOf old
-  unfolding sizeOf
-  size-old = ⊎-elim (λ l. absurd (never-both m (sizeOf old) (length old) long (size-right layout old l))) (λ l. l) (le-or-lt (sizeOf old) largestN)
+  pub size-old : largestN < nOf old
+  unfolding nOf
+  size-old = ⊎-elim (λ l. absurd (never-both m (nOf old) (length old) long (size-right layout old l))) (λ l. l) (le-or-lt (nOf old) largestN)
 
   pub stream-old : (ch input : List ℕ) → records old ch input ≡ refusedRecord BadShape ∷ []
   unfolding records
-  stream-old ch input = rw (lt-ltb largestN (sizeOf old) size-old)
+  stream-old ch input = rw (lt-ltb largestN (nOf old) size-old)

@@ -19,7 +19,7 @@ use Rattle.meaning.specs.Limits.{layout, oldLayout, recordBytes, oldLargestN, o
 use Rattle.meaning.specs.Sheet.{Rule, rules, rulesIn, badIn, frees}
 use Rattle.meaning.specs.Codewords.{codewords, candidates, payloadOf}
 use Rattle.meaning.specs.Open.{unknowns, equations}
-use Rattle.meaning.specs.Answers.{Reply, isDone, refuses, badShapeIn, checking, checkingIn, leaving}
+use Rattle.meaning.specs.Answers.{Reply, isDone, refuses, badShapeIn, checking, checkingIn, reply, leaving}
 use Rattle.meaning.specs.declared.Answer.{Answer}
 use Rattle.meaning.specs.declared.Answer.the-variants.{Done}
 use Rattle.meaning.proofs.Layouts.{rules-today, checking-today}
@@ -57,8 +57,8 @@ same n old o =
       check = λ r. checking-today n (widened oldLayout layout n old) r ∙ same-check wider n old (o .small) (o .long) r;
     }
 
-module _ (n : ℕ) (old out x : List ℕ) (a : Answer) (p : leaving x a ≡ converting n old out) where
-  pub convert-determined : (x′ : List ℕ) (a′ : Answer) → leaving x′ a′ ≡ converting n old out → (a ≡ a′) × (x ≡ x′)
+module _ (n : ℕ) (old out x : List ℕ) (a : Answer) (p : reply x a ≡ converting n old out) where
+  pub convert-determined : (x′ : List ℕ) (a′ : Answer) → reply x′ a′ ≡ converting n old out → (a ≡ a′) × (x ≡ x′)
   convert-determined x′ a′ q = reply-determined a a′ x x′ (converting n old out) p q
 
   pub convert-refused : refuses (convertRefusals n old (length out)) ≡ true → x ≡ out

@@ -1,7 +1,7 @@
 -- The records of a widened sheet say what those of the sheet said.
 --     Wider L M         M has room for the records of L, and the masks of L for the positions of its sheets
 --     wider, next-wider     today's layout is wider than the old one, and any next one than today's
---     size-fits         N of an old sheet is no more than the positions of its masks
+--     size-fits         N of an old sheet is no more than the positions of its masks; old-positions, N as the code has it
 --     new-byte          byte k of a new record: the old record's, or 0 behind it
 --     grown, new-mask   the mask of an old record, and no more names
 --     new-fine          a new record breaks no rule where the old one breaks none
@@ -25,6 +25,8 @@ use Rattle.bits.proofs.RowLaws.{row-fit}
 use Rattle.bits.proofs.WordBits.{zero-bit}
 use Rattle.meaning.specs.Limits.{Layout, layout, oldLayout, largestN, maskBytes, recordBytes, oldLargestN, oldMaskBytes, oldRecordBytes}
 use Rattle.meaning.specs.Sheet.{Rule, free, frozen, byteIn, namesIn, maskIn, ruleIn, rulesIn, fineIn, badIn}
+use Rattle.sheet.specs.Shapes.{positions}
+use Rattle.sheet.proofs.Shapes.{positions-all}
 use Rattle.sheet_convert.specs.Conversion.{wideAt, widened}
 
 -- ---- two layouts
@@ -48,6 +50,10 @@ next-wider n m h k = record { head = refl; head′ = refl; wide = k; high = h; r
 -- N of an old sheet is no more than the positions of its masks
 pub size-fits : (n : ℕ) → n ≤ oldLargestN → 2 ^ n ≤ 8 * oldMaskBytes
 size-fits n h = omega (arith, pow-mono h, wider .room)
+
+-- N of an old sheet, as the code has it
+pub old-positions : (n : ℕ) → n ≤ oldLargestN → positions n ≡ 2 ^ n
+old-positions n h = positions-all n (omega (arith, wider .high))
 
 -- the positions that only the masks of M have
 abbrev pub more : Layout → Layout → ℕ

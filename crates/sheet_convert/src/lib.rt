@@ -5,9 +5,9 @@ ghost use mathlib.Core.Bool.{false};
 ghost use Prim.Native.Nat.{_*_, _/_, _^_, _≤_, _<_};
 ghost use lib.ListN.{length};
 ghost use Rattle.bits.specs.Vectors.{tab};
-ghost use Rattle.meaning.specs.Limits.{layout, oldLayout, recordBytes, oldLargestN, oldRecordBytes};
-ghost use Rattle.meaning.specs.Answers.{badShape, leaving};
-ghost use Rattle.meaning.specs.Stream.{sizeIn};
+ghost use Rattle.meaning.specs.Limits.{layout, oldLayout, recordBytes, oldRecordBytes};
+ghost use Rattle.meaning.specs.Answers.{badShape, reply};
+ghost use Rattle.meaning.specs.Stream.{nIn};
 ghost use Rattle.sheet_convert.specs.Conversion.{wideAt, converting, Old, handing};
 use meaning::Answer;
 use meaning::limits;
@@ -15,21 +15,13 @@ use meaning::limits;
 // Bytes of the longest old sheet, converted.
 pub const LONGEST: usize = limits::OLD_POSITIONS * limits::RECORD;
 
-// N, 2 to the n.
-fn size_of(n: usize) -> usize
-    requires { ⌜ n ≤ oldLargestN ⌝ }
-    ensures { λ r. ⌜ r ≡ 2 ^ n ⌝ }
-{
-    1 << n
-}
-
 // The n of an old sheet of N = 2 to the n records, from its length; 8 where no n up to 7 has such a sheet.
-pub fn old_size(old: &[u8]) -> usize
-    ensures { λ r. ⌜ r ≡ sizeIn oldLayout (now (old .entry)) ⌝ }
+pub fn old_n(old: &[u8]) -> usize
+    ensures { λ r. ⌜ r ≡ nIn oldLayout (now (old .entry)) ⌝ }
 {
     let mut n = 0;
     while n <= limits::OLD_LARGEST_N {
-        if old.len() == size_of(n) * limits::OLD_RECORD {
+        if old.len() == sheet::size(n) * limits::OLD_RECORD {
             return n;
         }
         n += 1;
@@ -64,10 +56,10 @@ fn widen(old: &[u8], sheet: &mut [u8])
 // Hands out a sheet of today: answers for a bad record, for too little room, or copies it.
 fn hand_out(n: usize, sheet: &[u8], out: &mut [u8]) -> Answer
     requires { ⌜ badShape n (now sheet) ≡ false ⌝ }
-    ensures { λ a. ⌜ leaving (now (out .exit)) a ≡ handing n (now (sheet .entry)) (now (out .entry)) ⌝ }
+    ensures { λ a. ⌜ reply (now (out .exit)) a ≡ handing n (now (sheet .entry)) (now (out .entry)) ⌝ }
 {
-    let a = form::check_sheet(n, sheet, 0);
-    let v = meaning::numbers(a);
+    let a = sheet::check_sheet(n, sheet, 0);
+    let v = answers::numbers(a);
     if v[0] == 12 {
         return a;
     }
@@ -81,7 +73,7 @@ fn hand_out(n: usize, sheet: &[u8], out: &mut [u8]) -> Answer
 // Converts an old sheet of N records, in a room as long as the new one.
 fn convert_in(n: usize, old: &[u8], sheet: &mut [u8], out: &mut [u8]) -> Answer
     requires { ⌜ Old n (now old) × (length (now sheet) ≡ 2 ^ n * recordBytes) ⌝ }
-    ensures { λ a. ⌜ leaving (now (out .exit)) a ≡ converting n (now (old .entry)) (now (out .entry)) ⌝ }
+    ensures { λ a. ⌜ reply (now (out .exit)) a ≡ converting n (now (old .entry)) (now (out .entry)) ⌝ }
 {
     widen(old, sheet);
     hand_out(n, sheet, out)
@@ -96,12 +88,12 @@ fn convert_in(n: usize, old: &[u8], sheet: &mut [u8], out: &mut [u8]) -> Answer
 //     BadRecord (12)      the place of the first record that breaks any rule
 //     ShortOutput (16)    `out` is under 68N bytes long; LONGEST is enough for any
 pub fn convert(n: usize, old: &[u8], out: &mut [u8]) -> Answer
-    ensures { λ a. ⌜ leaving (now (out .exit)) a ≡ converting n (now (old .entry)) (now (out .entry)) ⌝ }
+    ensures { λ a. ⌜ reply (now (out .exit)) a ≡ converting n (now (old .entry)) (now (out .entry)) ⌝ }
 {
     if limits::OLD_LARGEST_N < n {
         return Answer::BadShape;
     }
-    let size = size_of(n);
+    let size = sheet::size(n);
     if old.len() != size * limits::OLD_RECORD {
         return Answer::BadShape;
     }

@@ -5,22 +5,14 @@ use borrow.Author.Needs.{needs}
 use borrow.Author.Tests.{not-true, not-false}
 use borrow.Rule.Slice.PartMut.{same-len-mid}
 use lib.ListN.{length}
+use Rattle.sheet.proofs.Shapes.{positions-all}
 use Rattle.checks.proofs.Testing.{ready}
-use Rattle.checks.proofs.Promise.{part-size, part-length, part-rows, part-records, left-alone, appended}
+use Rattle.checks.proofs.Promise.{part-size, part-length, part-rows, left-alone, appended}
 use Rattle.checks.proofs.check_rows.Statement.{statement}
 use Rattle.checks.proofs.check_rows.Tie as tie
 
-fits-requires : tie.Need-fits-requires
-fits-requires c κs = search needs
-
 returns : tie.Need-returns
 returns c = left-alone _ _ _ _ _ _ _ _ (sym (c .before .fits2 .ensures) ∙ not-true _ (c .if1 .taken))
-
-size-of-requires : tie.Need-size-of-requires
-size-of-requires c κs =
-    let A = c .before .before .before .before .before .args in
-    let R = ready (A .n) (length (A .sheet .now)) (A .r) (A .c) (A .w) (length (A .us .now)) (A .m) (length (A .eqs .now)) (sym (c .before .fits2 .ensures) ∙ not-false _ (c .if1 .left)) in
-    R .small
 
 mul-from : tie.Need-mul-from
 mul-from c =
@@ -66,7 +58,7 @@ write-requires : tie.Need-write-requires
 write-requires c κs =
     let A = c .before .before .before .before .before .before .before .args in
     let R = ready (A .n) (length (A .sheet .now)) (A .r) (A .c) (A .w) (length (A .us .now)) (A .m) (length (A .eqs .now)) (sym (c .before .before .before .fits2 .ensures) ∙ not-false _ (c .before .before .if1 .left)) in
-    (R .short, part-records (A .n) _ _ (R .records) (c .before .size-of .ensures), R .rows-u ∙ ap (λ (x : ℕ). x * A .w) (sym (c .before .size-of .ensures)), part-length (A .m) (A .r) (A .w) (A .eqs .now) (R .room))
+    (R .short, R .rows-u ∙ ap (λ (x : ℕ). x * A .w) (sym (c .before .size .ensures ∙ positions-all (A .n) (R .small))), part-length (A .m) (A .r) (A .w) (A .eqs .now) (R .room))
 
 same-length : tie.Need-same-length
 same-length c =
@@ -79,22 +71,11 @@ returns-2 c =
     let h = sym (c .before .before .before .before .before .before .fits2 .ensures) ∙ not-false _ (c .before .before .before .before .before .if1 .left) in
     let R = ready (A .n) (length (A .sheet .now)) (A .r) (A .c) (A .w) (length (A .us .now)) (A .m) (length (A .eqs .now)) h in
     let W = c .before .before .write in
-    appended _ _ _ _ _ _ _ _ h _ (c .before .before .before .before .size-of .ensures) (W .last .1 .1 .1 .1 .1 .1 .0) (W .kept .1 .1 .1 .1 .1 .1 .0 ∙ part-length (A .m) (A .r) (A .w) (A .eqs .now) (R .room)) (W .ensures)
+    appended _ _ _ _ _ _ _ _ h _ (c .before .before .before .before .size .ensures ∙ positions-all (A .n) (R .small)) (W .last .1 .1 .1 .1 .1 .1 .0) (W .kept .1 .1 .1 .1 .1 .1 .0 ∙ part-length (A .m) (A .r) (A .w) (A .eqs .now) (R .room)) (W .ensures)
 
 pub check-rows-spec : {M : Type 1} → statement M
 check-rows-spec =
     tie.close
     (tie.spec
-    fits-requires
-    returns
-    size-of-requires
-    mul-from
-    add-to
-    mul-to
-    mul-write
-    sub-write
-    part-write-start
-    part-write-end
-    write-requires
-    same-length
-    returns-2)
+    (λ c κs. search needs) returns (λ c κs. search needs) mul-from add-to mul-to mul-write sub-write part-write-start part-write-end write-requires
+    same-length returns-2)

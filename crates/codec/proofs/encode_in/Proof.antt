@@ -14,12 +14,6 @@ accepted-at : (c : tie.Else1) → let start = c .before .before .before .before 
     Accepted (start .args .n) (start .args .sheet .now) (start .args .r) (start .args .payload .now) (start .args .out .now)
 accepted-at c = accepted _ _ _ _ _ _ (c .before .before .encode-fault .ensures) _ (c .before .is-done .ensures) (not-false _ (c .if1 .left))
 
-encode-fault-requires : tie.Need-encode-fault-requires
-encode-fault-requires c κs = search needs
-
-is-done-requires : tie.Need-is-done-requires
-is-done-requires c κs = search needs
-
 returns : tie.Need-returns
 returns c = encode-refused _ _ _ _ _ _ (c .before .before .encode-fault .ensures) _ (c .before .is-done .ensures) (not-true _ (c .if1 .taken))
 
@@ -27,63 +21,33 @@ add-k : tie.Need-add-k
 unfolding largestN
 add-k c = record { fits = omega (arith, (accepted-at c) .fits) }
 
-sub-send : tie.Need-sub-send
-sub-send c = search needs
+part-write-codeword-end : tie.Need-part-write-codeword-end
+part-write-codeword-end c = omega (arith, (accepted-at c) .fits, c .before .before .before .before .before .before .before .pre)
 
-part-send-start : tie.Need-part-send-start
-part-send-start c = search needs
-
-part-send-end : tie.Need-part-send-end
-part-send-end c = omega (arith, (accepted-at c) .fits, c .before .before .before .before .before .before .before .pre)
-
-sub-send-2 : tie.Need-sub-send-2
-sub-send-2 c = search needs
-
-part-send-start-2 : tie.Need-part-send-start-2
-part-send-start-2 c = search needs
-
-part-send-end-2 : tie.Need-part-send-end-2
+part-write-codeword-end-2 : tie.Need-part-write-codeword-end-2
 unfolding recordBytes maskBytes
-part-send-end-2 c = omega (arith, (accepted-at (c .before)) .roomy)
+part-write-codeword-end-2 c = omega (arith, (accepted-at (c .before)) .roomy)
 
-send-requires : tie.Need-send-requires
+write-codeword-requires : tie.Need-write-codeword-requires
 unfolding recordBytes maskBytes
-send-requires c κs =
+write-codeword-requires c κs =
     let ok = accepted-at (c .before .before) in
     let start = c .before .before .before .before .before .before .before .before .before in
     (ok .ready _ (simp length-take (omega (arith, ok .fits, start .pre))), simp length-take (omega (arith, ok .length-is, ok .roomy)))
 
-same-length : tie.Need-same-length
-same-length c = search needs
-
-same-length-2 : tie.Need-same-length-2
-same-length-2 c = search needs
-
 returns-2 : tie.Need-returns-2
 unfolding recordBytes maskBytes
 returns-2 c =
-    let send = c .before .before .before .before in
-    let test = send .before .before .before in
+    let write-codeword = c .before .before .before .before in
+    let test = write-codeword .before .before .before in
     let start = test .before .before .before .before .before .before .before in
     let size = length (start .args .sheet .now) / recordBytes in
     let lent : length (take (size - 0) (start .args .out .now)) ≡ size - 0 = simp length-take (omega (arith, (accepted-at test) .roomy)) in
-    (accepted-at test) .sent (send .send .last .1 .1 .1 .1 .1 .0) (size - 0) (sym (send .send .kept .1 .1 .1 .1 .1 .0 ∙ lent)) (send .send .ensures)
+    (accepted-at test) .sent (write-codeword .write-codeword .last .1 .1 .1 .1 .1 .0) (size - 0) (sym (write-codeword .write-codeword .kept .1 .1 .1 .1 .1 .0 ∙ lent)) (write-codeword .write-codeword .ensures)
 
 pub encode-in-spec : {M : Type 1} → statement M
 encode-in-spec =
     tie.close
     (tie.spec
-    encode-fault-requires
-    is-done-requires
-    returns
-    add-k
-    sub-send
-    part-send-start
-    part-send-end
-    sub-send-2
-    part-send-start-2
-    part-send-end-2
-    send-requires
-    same-length
-    same-length-2
-    returns-2)
+    (λ c κs. search needs) (λ c κs. search needs) returns add-k (λ c. search needs) (λ c. search needs) part-write-codeword-end (λ c. search needs)
+    (λ c. search needs) part-write-codeword-end-2 write-codeword-requires (λ c. search needs) (λ c. search needs) returns-2)

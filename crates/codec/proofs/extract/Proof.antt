@@ -9,32 +9,8 @@ use Rattle.codec.proofs.Reading.{nothing, something}
 use Rattle.codec.proofs.extract.Statement.{statement}
 use Rattle.codec.proofs.extract.Tie as tie
 
-unsend-requires : tie.Need-unsend-requires
-unsend-requires c κs = search needs
-
 lawful-requires : tie.Need-lawful-requires
-lawful-requires c κs = let call = c .before .before .before .before in c .before .before .before .before .before .before .before .before .before .before .before .pre .0 .0 .behind (call .unsend .last .1 .1 .0) (call .unsend .ensures)
-
-sub-copy : tie.Need-sub-copy
-sub-copy c = search needs
-
-part-copy-start : tie.Need-part-copy-start
-part-copy-start c = search needs
-
-part-copy-end : tie.Need-part-copy-end
-part-copy-end c = search needs
-
-copy-requires : tie.Need-copy-requires
-copy-requires c κs = search needs
-
-same-length : tie.Need-same-length
-same-length c = search needs
-
-same-length-2 : tie.Need-same-length-2
-same-length-2 c = search needs
-
-same-length-3 : tie.Need-same-length-3
-same-length-3 c = search needs
+lawful-requires c κs = let call = c .before .before .before .before in c .before .before .before .before .before .before .before .before .before .before .before .pre .0 .0 .behind (call .vector-behind .last .1 .1 .0) (call .vector-behind .ensures)
 
 returns : tie.Need-returns
 returns c =
@@ -45,36 +21,19 @@ returns c =
     let start = c .before .before .before .before .before .before .before .before .before .before .before .before .before .before .before .before .before .before .before .before .before in
     let f = law .lawful .last .1 .1 .1 .0 in
     let m = start .args .m in
-    something _ _ _ (call .unsend .last .1 .1 .0) (start .pre .0 .0 .long) (call .unsend .ensures) _ _ _ _ (law .lawful .ensures .0) (test .if1 .taken)
+    something _ _ _ (call .vector-behind .last .1 .1 .0) (start .pre .0 .0 .long) (call .vector-behind .ensures) _ _ _ _ (law .lawful .ensures .0) (test .if1 .taken)
     f (copy .copy .last .1 .0) (law .lawful .ensures .1) (omega (arith, law .lawful .kept .1 .1 .1 .0, start .pre .1 .0))
     (subst (λ (j : ℕ). copy .copy .last .1 .0 ≡ take (length (take j f)) (take j f) ++ drop (length (take j f)) (start .args .out .now)) (sub-zero m) (copy .copy .ensures .1))
-
-same-length-4 : tie.Need-same-length-4
-same-length-4 c = search needs
-
-same-length-5 : tie.Need-same-length-5
-same-length-5 c = search needs
 
 returns-2 : tie.Need-returns-2
 returns-2 c =
     let law = c .before .before .before in
     let call = c .before .before .before .before .before .before .before .before in
-    nothing _ _ _ (call .unsend .last .1 .1 .0) (c .before .before .before .before .before .before .before .before .before .before .before .before .before .before .before .pre .0 .0 .long) (call .unsend .ensures) _ _ _ _ (law .lawful .ensures .0) (c .if1 .left)
+    nothing _ _ _ (call .vector-behind .last .1 .1 .0) (c .before .before .before .before .before .before .before .before .before .before .before .before .before .before .before .pre .0 .0 .long) (call .vector-behind .ensures) _ _ _ _ (law .lawful .ensures .0) (c .if1 .left)
 
 pub extract-spec : {M : Type 1} → statement M
 extract-spec =
     tie.close
     (tie.spec
-    unsend-requires
-    lawful-requires
-    sub-copy
-    part-copy-start
-    part-copy-end
-    copy-requires
-    same-length
-    same-length-2
-    same-length-3
-    returns
-    same-length-4
-    same-length-5
-    returns-2)
+    (λ c κs. search needs) lawful-requires (λ c. search needs) (λ c. search needs) (λ c. search needs) (λ c κs. search needs) (λ c. search needs)
+    (λ c. search needs) (λ c. search needs) returns (λ c. search needs) (λ c. search needs) returns-2)

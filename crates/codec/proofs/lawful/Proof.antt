@@ -10,19 +10,10 @@ take-free-requires c κs = let ok = c .before .before .before .before .pre in ((
 ruled-requires : tie.Need-ruled-requires
 ruled-requires c κs = let take = c .before .before .before in place-again _ _ _ _ (c .before .before .before .before .before .before .before .before .pre) (take .take-free .last .1 .1 .0) (take .take-free .ensures)
 
-same-length : tie.Need-same-length
-same-length c = search needs
-
 returns : tie.Need-returns
 returns c =
     let take = c .before .before .before .before .before in
     (broken _ _ _ _ (c .before .before .before .before .before .before .before .before .before .before .pre) (take .take-free .last .1 .1 .0) (take .take-free .ensures) _ (c .before .ruled .ensures) (not-true _ (c .if1 .taken)), take .take-free .ensures)
-
-divides-requires : tie.Need-divides-requires
-divides-requires c κs = tt
-
-same-length-2 : tie.Need-same-length-2
-same-length-2 c = search needs
 
 returns-2 : tie.Need-returns-2
 returns-2 c =
@@ -30,6 +21,4 @@ returns-2 c =
     (held _ _ _ _ (c .before .before .before .before .before .before .before .before .before .before .before .before .pre) (take .take-free .last .1 .1 .0) (take .take-free .ensures) _ (c .before .before .before .ruled .ensures) (not-false _ (c .before .before .if1 .left)) _ (c .divides .ensures), take .take-free .ensures)
 
 pub lawful-spec : {M : Type 1} → statement M
-lawful-spec =
-    tie.close
-    (tie.spec take-free-requires ruled-requires same-length returns divides-requires same-length-2 returns-2)
+lawful-spec = tie.close (tie.spec take-free-requires ruled-requires (λ c. search needs) returns (λ c κs. tt) (λ c. search needs) returns-2)

@@ -15,35 +15,14 @@ read-at c =
     let test = c .before in
     reads _ _ _ _ _ _ (test .before .before .read-fault .ensures) _ (test .before .is-done .ensures) (not-false _ (test .if1 .left)) _ (c .count-free .ensures)
 
-read-fault-requires : tie.Need-read-fault-requires
-read-fault-requires c κs = search needs
-
-is-done-requires : tie.Need-is-done-requires
-is-done-requires c κs = search needs
-
 returns : tie.Need-returns
 returns c = read-refused _ _ _ _ _ _ (c .before .before .read-fault .ensures) _ (c .before .is-done .ensures) (not-true _ (c .if1 .taken))
-
-count-free-requires : tie.Need-count-free-requires
-count-free-requires c κs = search needs
 
 sub-extract : tie.Need-sub-extract
 sub-extract c = (read-at c) .enough
 
-sub-extract-2 : tie.Need-sub-extract-2
-sub-extract-2 c = search needs
-
-part-extract-start : tie.Need-part-extract-start
-part-extract-start c = search needs
-
 part-extract-end : tie.Need-part-extract-end
 part-extract-end c = omega (arith, (read-at c) .low, c .before .before .before .before .before .before .before .before .before .pre .0)
-
-sub-extract-3 : tie.Need-sub-extract-3
-sub-extract-3 c = search needs
-
-part-extract-start-2 : tie.Need-part-extract-start-2
-part-extract-start-2 c = search needs
 
 part-extract-end-2 : tie.Need-part-extract-end-2
 part-extract-end-2 c = omega (arith, (read-at (c .before)) .fits, c .before .before .before .before .before .before .before .before .before .before .pre .1)
@@ -59,18 +38,6 @@ extract-requires c κs =
     let lf : length (take (k - 0) (start .args .free .now)) ≡ k = simp length-take (omega (arith, ok .fits, start .pre .1)) in
     ((ok .legible _ lf, lu ∙ ok .long), (omega arith, ok .roomy))
 
-outcome-requires : tie.Need-outcome-requires
-outcome-requires c κs = search needs
-
-same-length : tie.Need-same-length
-same-length c = search needs
-
-same-length-2 : tie.Need-same-length-2
-same-length-2 c = search needs
-
-same-length-3 : tie.Need-same-length-3
-same-length-3 c = search needs
-
 returns-2 : tie.Need-returns-2
 returns-2 c = (read-at (c .before .before .before .before .before .before .before .before .before .before .before)) .told _ _ _ (c .before .before .before .before .before .before .before .extract .ensures) (c .outcome .ensures)
 
@@ -78,20 +45,6 @@ pub read-in-spec : {M : Type 1} → statement M
 read-in-spec =
     tie.close
     (tie.spec
-    read-fault-requires
-    is-done-requires
-    returns
-    count-free-requires
-    sub-extract
-    sub-extract-2
-    part-extract-start
-    part-extract-end
-    sub-extract-3
-    part-extract-start-2
-    part-extract-end-2
-    extract-requires
-    outcome-requires
-    same-length
-    same-length-2
-    same-length-3
-    returns-2)
+    (λ c κs. search needs) (λ c κs. search needs) returns (λ c κs. search needs) sub-extract (λ c. search needs) (λ c. search needs) part-extract-end
+    (λ c. search needs) (λ c. search needs) part-extract-end-2 extract-requires (λ c κs. search needs) (λ c. search needs) (λ c. search needs)
+    (λ c. search needs) returns-2)

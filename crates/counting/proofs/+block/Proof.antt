@@ -5,7 +5,7 @@ use lib.ListN.{length, take, drop, length-take, length-drop}
 use lib.Seq.{length-take-le}
 use borrow.Author.Needs.{needs}
 use borrow.Author.Tests.{not-true}
-use Rattle.meaning.specs.Limits.{maskBytes, recordBytes}
+use Rattle.meaning.specs.Limits.{maskBytes}
 use Rattle.counting.specs.Halves.{openFrees}
 use Rattle.bits.proofs.Parts.{half-of, from-back}
 use Rattle.counting.proofs.Counting.{counts-one, counts-most, counts-none, counts-halves}
@@ -46,8 +46,7 @@ block-slice-read-one : (t : ℕ) → block-lts.Need-slice-read-one (calls t) (bl
 block-slice-read-one t c = let e : length (c .before .before .before .before .args .marks .now) ≡ 1 = c .before .before .before .before .pre .1 .0 ∙ ap (λ (x : ℕ). 2 ^ x) (c .before .if1 .taken) in omega arith
 
 block-one-requires : (t : ℕ) → block-lts.Need-one-requires (calls t) (block-at t) block.Post
-unfolding recordBytes maskBytes
-block-one-requires t c κs = let e : length (c .before .before .before .before .args .marks .now) ≡ 1 = c .before .before .before .before .pre .1 .0 ∙ ap (λ (x : ℕ). 2 ^ x) (c .before .if1 .taken) in omega arith
+block-one-requires t c κs = tt
 
 block-some-lost-requires : (t : ℕ) → block-lts.Need-some-lost-requires (calls t) (block-at t) block.Post
 block-some-lost-requires t c κs = tt
@@ -73,7 +72,7 @@ block-sub-block : (t : ℕ) → block-lts.Need-sub-block (calls t) (block-at t) 
 block-sub-block t c = omega (arith, c .before .before .before .before .before .before .before .before .if1 .left)
 
 block-block-requires : (t : ℕ) → block-lts.Need-block-requires (calls t) (block-at t) block.Post
-unfolding recordBytes maskBytes
+unfolding maskBytes
 block-block-requires t c κs =
     let p = c .before .before .before in
     let E = p .before .before .before .before .before in
@@ -104,14 +103,14 @@ block-part-block-end : (t : ℕ) → block-lts.Need-part-block-end (calls t) (bl
 block-part-block-end t c = omega arith
 
 block-add-block : (t : ℕ) → block-lts.Need-add-block (calls t) (block-at t) block.Post
-unfolding recordBytes maskBytes
+unfolding maskBytes
 block-add-block t c = omega (arith, c .before .before .before .before .before .before .before .before .before .before .before .before .before .before .before .pre .1 .1)
 
 block-sub-block-3 : (t : ℕ) → block-lts.Need-sub-block-3 (calls t) (block-at t) block.Post
 block-sub-block-3 t c = omega (arith, c .before .before .before .before .before .before .before .before .before .before .before .before .if1 .left)
 
 block-block-requires-2 : (t : ℕ) → block-lts.Need-block-requires-2 (calls t) (block-at t) block.Post
-unfolding recordBytes maskBytes
+unfolding maskBytes
 block-block-requires-2 t c κs =
     let d = c .before .before .before in
     let p = d .before .before .before .before in

@@ -16,7 +16,7 @@ count-requires : tie.Need-count-requires
 unfolding maskBytes
 count-requires c κs =
     let P = c .before .before .before .pre in
-    (length-take-le _ _ (P .1), P .0, P .2)
+    (length-take-le _ _ (P .1), P .0, P .1)
 
 returns : tie.Need-returns
 returns c = c .before .count .ensures

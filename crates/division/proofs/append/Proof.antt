@@ -4,14 +4,8 @@ use Rattle.division.proofs.Checking.{fitting-known, appending-is, appen
 use Rattle.division.proofs.append.Statement.{statement}
 use Rattle.division.proofs.append.Tie as tie
 
-fits-requires : tie.Need-fits-requires
-fits-requires c κs = tt
-
 attach-requires : tie.Need-attach-requires
 attach-requires c κs = fitting-known _ _ _ (sym (c .before .before .fits2 .ensures) ∙ c .before .if1 .taken)
-
-same-length : tie.Need-same-length
-same-length c = search needs
 
 returns : tie.Need-returns
 returns c = c .before .before .attach .ensures ∙ sym (appending-is _ _ _ (sym (c .before .before .before .before .before .fits2 .ensures) ∙ c .before .before .before .before .if1 .taken))
@@ -20,4 +14,4 @@ returns-2 : tie.Need-returns-2
 returns-2 c = sym (appending-not _ _ _ (sym (c .before .fits2 .ensures) ∙ c .if1 .left))
 
 pub append-spec : {M : Type 1} → statement M
-append-spec = tie.close (tie.spec fits-requires attach-requires same-length returns returns-2)
+append-spec = tie.close (tie.spec (λ c κs. tt) attach-requires (λ c. search needs) returns returns-2)

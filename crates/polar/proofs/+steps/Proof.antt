@@ -7,7 +7,8 @@ use borrow.Author.Needs.{needs}
 use borrow.Fn.Kinds.{In}
 use borrow.Fn.PlainCycle.{Measures, is, falls, and}
 use Rattle.polar.specs.Bytes.{folded, polarBytes}
-use Rattle.polar.proofs.Transforming.{two-pow, half, rest, whole, join, bytes-zero}
+use Rattle.polar.proofs.Transforming.{half, rest, whole, join, bytes-zero}
+use Rattle.bits.proofs.Parts.{two-pow}
 use Rattle.polar.proofs.+steps.{statement}
 use Rattle.polar.proofs.+steps.Tie.{close}
 use Rattle.polar.proofs.steps.Reads as steps

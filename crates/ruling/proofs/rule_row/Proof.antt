@@ -3,9 +3,6 @@ use Rattle.ruling.proofs.Room.{room, ruled-is, ruled-not}
 use Rattle.ruling.proofs.rule_row.Statement.{statement}
 use Rattle.ruling.proofs.rule_row.Tie as tie
 
-fits-requires : tie.Need-fits-requires
-fits-requires c κs = tt
-
 summed-requires : tie.Need-summed-requires
 summed-requires c κs = room _ _ _ _ _ _ _ (sym (c .before .before .fits2 .ensures) ∙ c .before .if1 .taken)
 
@@ -19,4 +16,4 @@ returns-2 : tie.Need-returns-2
 returns-2 c = sym (ruled-not _ _ _ _ _ _ _ (sym (c .before .fits2 .ensures) ∙ c .if1 .left))
 
 pub rule-row-spec : {M : Type 1} → statement M
-rule-row-spec = tie.close (tie.spec fits-requires summed-requires same-length returns returns-2)
+rule-row-spec = tie.close (tie.spec (λ c κs. tt) summed-requires same-length returns returns-2)

@@ -5,15 +5,6 @@ use Rattle.ruling.proofs.Rules.{unknown-made, unknown-none}
 use Rattle.ruling.proofs.unknown_row.Statement.{statement}
 use Rattle.ruling.proofs.unknown_row.Tie as tie
 
-zero-requires : tie.Need-zero-requires
-zero-requires c κs = tt
-
-shl-d : tie.Need-shl-d
-shl-d c = search needs
-
-mul-d : tie.Need-mul-d
-mul-d c = search needs
-
 slice-write-d : tie.Need-slice-write-d
 slice-write-d c = omega (arith, c .before .before .before .zero .kept .0, c .if1 .taken)
 
@@ -30,6 +21,4 @@ returns-2 : tie.Need-returns-2
 returns-2 c = unknown-none _ _ _ (c .before .before .before .zero .ensures) (c .if1 .left)
 
 pub unknown-row-spec : {M : Type 1} → statement M
-unknown-row-spec =
-    tie.close
-    (tie.spec zero-requires shl-d mul-d slice-write-d same-length returns same-length-2 returns-2)
+unknown-row-spec = tie.close (tie.spec (λ c κs. tt) (λ c. search needs) (λ c. search needs) slice-write-d same-length returns same-length-2 returns-2)

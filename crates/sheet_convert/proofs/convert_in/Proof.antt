@@ -27,12 +27,6 @@ hand-out-requires c κs =
     let A = start .args in
     ap (badShape (A .n)) (filled (A .n) _ (A .old .now) _ (made .widen .ensures) (start .pre .1)) ∙ new-shape (A .n) (A .old .now) (start .pre .0)
 
-same-length : tie.Need-same-length
-same-length c = search needs
-
-same-length-2 : tie.Need-same-length-2
-same-length-2 c = search needs
-
 returns : tie.Need-returns
 returns c =
     let handing-out = c .before .before in
@@ -42,5 +36,4 @@ returns c =
     handing-out .hand-out .ensures ∙ ap (λ (s : List ℕ). handing (A .n) s (A .out .now)) (filled (A .n) _ (A .old .now) _ (made .widen .ensures) (start .pre .1)) ∙ handed (A .n) (A .old .now) (start .pre .0) (A .out .now)
 
 pub convert-in-spec : {M : Type 1} → statement M
-convert-in-spec =
-    tie.close (tie.spec widen-requires hand-out-requires same-length same-length-2 returns)
+convert-in-spec = tie.close (tie.spec widen-requires hand-out-requires (λ c. search needs) (λ c. search needs) returns)

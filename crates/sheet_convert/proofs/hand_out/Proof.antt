@@ -4,15 +4,6 @@ use Rattle.sheet_convert.proofs.Converting.{bad, short, copied}
 use Rattle.sheet_convert.proofs.hand_out.Statement.{statement}
 use Rattle.sheet_convert.proofs.hand_out.Tie as tie
 
-check-sheet-requires : tie.Need-check-sheet-requires
-check-sheet-requires c κs = search needs
-
-numbers-requires : tie.Need-numbers-requires
-numbers-requires c κs = search needs
-
-array-read-if1 : tie.Need-array-read-if1
-array-read-if1 c = search needs
-
 returns : tie.Need-returns
 returns c =
     let start = c .before .before .before .before .before in
@@ -25,12 +16,6 @@ returns-2 c =
     let A = start .args in
     short (A .n) (A .sheet .now) (A .out .now) (start .pre) _ (c .before .before .before .check-sheet .ensures) _ (c .before .before .numbers .ensures) (c .before .if1 .left) (omega arith)
 
-copy-requires : tie.Need-copy-requires
-copy-requires c κs = search needs
-
-same-length : tie.Need-same-length
-same-length c = search needs
-
 returns-3 : tie.Need-returns-3
 returns-3 c =
     let asked = c .before .before .before .before in
@@ -42,11 +27,4 @@ pub hand-out-spec : {M : Type 1} → statement M
 hand-out-spec =
     tie.close
     (tie.spec
-    check-sheet-requires
-    numbers-requires
-    array-read-if1
-    returns
-    returns-2
-    copy-requires
-    same-length
-    returns-3)
+    (λ c κs. search needs) (λ c κs. search needs) (λ c. search needs) returns returns-2 (λ c κs. search needs) (λ c. search needs) returns-3)

@@ -8,9 +8,6 @@ use Rattle.view.proofs.Cases.{none-large, none-behind, none-other, ther
 use Rattle.view.proofs.record.Statement.{statement}
 use Rattle.view.proofs.record.Tie as tie
 
-slice-aggregate-result : tie.Need-slice-aggregate-result
-slice-aggregate-result c = search needs
-
 -- n above the largest
 returns : tie.Need-returns
 unfolding largestN
@@ -21,9 +18,6 @@ returns c =
 size-of-requires : tie.Need-size-of-requires
 unfolding largestN
 size-of-requires c κs = omega (arith, c .if1 .left)
-
-slice-aggregate-result-2 : tie.Need-slice-aggregate-result-2
-slice-aggregate-result-2 c = search needs
 
 -- a position of N or more
 returns-2 : tie.Need-returns-2
@@ -38,9 +32,6 @@ mul-if3 c =
     let e = c .before .size-of .ensures in
     omega (arith, strip-fits (c .before .before .before .before .args .n) (omega (arith, c .before .before .if1 .left)))
 
-slice-aggregate-result-3 : tie.Need-slice-aggregate-result-3
-slice-aggregate-result-3 c = search needs
-
 -- a strip of another length
 returns-3 : tie.Need-returns-3
 unfolding cartridgeBytes
@@ -48,21 +39,6 @@ returns-3 c =
     let a = c .before .before .before .before .before .before .args in
     let e = c .before .before .before .size-of .ensures in
     view-none (a .strip) (a .n) (a .at) (none-other (a .n) (a .at) _ (λ x. omega (arith, c .before .if3 .taken)))
-
-mul-start : tie.Need-mul-start
-mul-start c = search needs
-
-add-end : tie.Need-add-end
-add-end c = search needs
-
-sub-result : tie.Need-sub-result
-sub-result c = search needs
-
-part-result-start : tie.Need-part-result-start
-part-result-start c = search needs
-
-part-result-end : tie.Need-part-result-end
-part-result-end c = search needs
 
 -- the record
 returns-4 : tie.Need-returns-4
@@ -76,17 +52,5 @@ pub record-spec : {M : Type 1} → statement M
 record-spec =
     tie.close
     (tie.spec
-    slice-aggregate-result
-    returns
-    size-of-requires
-    slice-aggregate-result-2
-    returns-2
-    mul-if3
-    slice-aggregate-result-3
-    returns-3
-    mul-start
-    add-end
-    sub-result
-    part-result-start
-    part-result-end
-    returns-4)
+    (λ c. search needs) returns size-of-requires (λ c. search needs) returns-2 mul-if3 (λ c. search needs) returns-3 (λ c. search needs) (λ c. search needs)
+    (λ c. search needs) (λ c. search needs) (λ c. search needs) returns-4)

@@ -5,9 +5,6 @@ use Rattle.checks.proofs.Turning.{slot-in, turned-plus}
 use Rattle.checks.proofs.register.add_at.Statement.{statement}
 use Rattle.checks.proofs.register.add_at.Tie as tie
 
-slot-requires : tie.Need-slot-requires
-slot-requires c κs = search needs
-
 mul-reg : tie.Need-mul-reg
 mul-reg c =
     let A = c .before .before .args in
@@ -32,15 +29,10 @@ slice-write-reg c =
     let l = slot-in (length (A .reg .now)) (A .h) (A .j) (omega arith) (omega arith) in
     omega (arith, l, c .before .slot .ensures)
 
-same-length : tie.Need-same-length
-same-length c = search needs
-
 returns : tie.Need-returns
 returns c =
     let P = c .before .before .before .pre in
     turned-plus _ _ _ _ _ (P .0) (P .1) (c .before .slot .ensures)
 
 pub add-at-spec : {M : Type 1} → statement M
-add-at-spec =
-    tie.close
-    (tie.spec slot-requires mul-reg slice-read-reg mul-reg-2 slice-write-reg same-length returns)
+add-at-spec = tie.close (tie.spec (λ c κs. search needs) mul-reg slice-read-reg mul-reg-2 slice-write-reg (λ c. search needs) returns)

@@ -8,35 +8,11 @@ use Rattle.checks.proofs.Turning.{length-turned, taps-six, taps-eleven,
 use Rattle.checks.proofs.register.add_taps.Statement.{statement}
 use Rattle.checks.proofs.register.add_taps.Tie as tie
 
-add-at-requires : tie.Need-add-at-requires
-add-at-requires c κs = search needs
-
-add-at-requires-2 : tie.Need-add-at-requires-2
-add-at-requires-2 c κs = search needs
-
-same-length : tie.Need-same-length
-same-length c = search needs
-
 returns : tie.Need-returns
 returns c =
     let S = c .before .before .before .before .before .before .before .before .before .before in
     let A = S .args in
     taps-six (length (A .reg .now)) (turned (A .reg .now) (A .h)) _ (A .o) (length-turned (A .reg .now) (A .h) (S .pre .0)) (c .before .before .before .before .before .before .before .before .if1 .taken) (c .before .before .add-at2 .ensures ∙ ap (λ (s : List ℕ). plusAt s 5 (S .args .o)) (c .before .before .before .before .before .before .add-at .ensures))
-
-add-at-requires-3 : tie.Need-add-at-requires-3
-add-at-requires-3 c κs = search needs
-
-add-at-requires-4 : tie.Need-add-at-requires-4
-add-at-requires-4 c κs = search needs
-
-add-at-requires-5 : tie.Need-add-at-requires-5
-add-at-requires-5 c κs = search needs
-
-add-at-requires-6 : tie.Need-add-at-requires-6
-add-at-requires-6 c κs = search needs
-
-same-length-2 : tie.Need-same-length-2
-same-length-2 c = search needs
 
 returns-2 : tie.Need-returns-2
 returns-2 c =
@@ -55,14 +31,5 @@ pub add-taps-spec : {M : Type 1} → statement M
 add-taps-spec =
     tie.close
     (tie.spec
-    add-at-requires
-    add-at-requires-2
-    same-length
-    returns
-    add-at-requires-3
-    add-at-requires-4
-    add-at-requires-5
-    add-at-requires-6
-    same-length-2
-    returns-2
-    returns-3)
+    (λ c κs. search needs) (λ c κs. search needs) (λ c. search needs) returns (λ c κs. search needs) (λ c κs. search needs) (λ c κs. search needs)
+    (λ c κs. search needs) (λ c. search needs) returns-2 returns-3)

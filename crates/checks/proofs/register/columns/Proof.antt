@@ -23,14 +23,14 @@ divide-requires : tie.Need-divide-requires Inv-loop μ-loop
 divide-requires c κs =
     let P = c .before .before .before .before .before .before .before .pre in
     let n = c .before .before .loop .inv .1 in
-    (omega (arith, n, P .0), (omega (arith, n, P .1 .0), P .1 .1, P .1 .2, c .before .loop-test .taken))
+    (omega (arith, n, P .0), (omega (arith, n, P .1 .0), P .1 .1, c .before .loop-test .taken))
 
 put-requires : tie.Need-put-requires Inv-loop μ-loop
 put-requires c κs =
     let S = c .before .before .before .before .before .before .before .before .before .before .before .before in
     let I = c .before .before .before .before .before .before .before .loop .inv in
     let D = c .before .before .before .before .divide in
-    (I .2 ∙ S .pre .1 .3 ∙ ap (λ (x : ℕ). x * S .args .w) (sym (D .kept .0 ∙ I .1)), c .before .before .before .before .before .before .loop-test .taken, omega (arith, D .ensures .0, D .kept .0), omega (arith, D .kept .0, I .1, S .pre .1 .0))
+    (I .2 ∙ S .pre .1 .2 ∙ ap (λ (x : ℕ). x * S .args .w) (sym (D .kept .0 ∙ I .1)), c .before .before .before .before .before .before .loop-test .taken, omega (arith, D .ensures .0, D .kept .0), omega (arith, D .kept .0, I .1, S .pre .1 .0))
 
 add-k : tie.Need-add-k Inv-loop μ-loop
 add-k c = omega arith

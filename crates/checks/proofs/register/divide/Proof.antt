@@ -5,7 +5,6 @@ use Prim.Native.Nat.{ℕ, _+_, _-_, _*_, _<_}
 use native.Mathlib.Omega.{arith}
 use lib.ListN.{length, getD}
 use borrow.Author.Needs.{needs}
-use Rattle.meaning.specs.Limits.{recordBytes, maskBytes}
 use Rattle.checks.specs.Registers.{turned, fed, remainder}
 use Rattle.checks.proofs.Turning.{length-turned, turned-none}
 use Rattle.checks.proofs.Shifting.{Dividing, dividing-none, dividing-free, dividing-frozen, dividing-all, column-room, started-own}
@@ -30,32 +29,31 @@ loop-holds c =
     let started = started-own (length (S .args .reg .now)) _ _ _ (c .before .before .start .ensures) (c .before .before .before .unit-word .ensures) in
     (omega (arith, c .before .before .start .kept .0, S .pre .0), refl, dividing-none _ _ _ _ _ _ _ _ (turned-none _ ∙ started))
 
-kind-requires : tie.Need-kind-requires Inv-loop μ-loop
-unfolding recordBytes maskBytes
-kind-requires c κs = omega arith
+is-free-requires : tie.Need-is-free-requires Inv-loop μ-loop
+is-free-requires c κs = search needs
 
 mul-feed : tie.Need-mul-feed Inv-loop μ-loop
 mul-feed c =
     let S = c .before .before .before .before .before .before .before .before .before .before .before .before .before in
-    let f = column-room 0 [] _ (S .args .us .now) (S .args .w) (S .args .c) (S .args .k) (c .before .before .before .before .loop .i) (S .pre .1 .2) (S .pre .1 .3) (c .before .before .before .loop-test .taken) in
+    let f = column-room 0 [] _ (S .args .us .now) (S .args .w) (S .args .c) (S .args .k) (c .before .before .before .before .loop .i) (S .pre .1 .1) (S .pre .1 .2) (c .before .before .before .loop-test .taken) in
     omega (arith, f)
 
 add-feed : tie.Need-add-feed Inv-loop μ-loop
 add-feed c =
     let S = c .before .before .before .before .before .before .before .before .before .before .before .before .before in
-    let f = column-room 0 [] _ (S .args .us .now) (S .args .w) (S .args .c) (S .args .k) (c .before .before .before .before .loop .i) (S .pre .1 .2) (S .pre .1 .3) (c .before .before .before .loop-test .taken) in
+    let f = column-room 0 [] _ (S .args .us .now) (S .args .w) (S .args .c) (S .args .k) (c .before .before .before .before .loop .i) (S .pre .1 .1) (S .pre .1 .2) (c .before .before .before .loop-test .taken) in
     omega (arith, f)
 
 mul-feed-2 : tie.Need-mul-feed-2 Inv-loop μ-loop
 mul-feed-2 c =
     let S = c .before .before .before .before .before .before .before .before .before .before .before .before .before in
-    let f = column-room 0 [] _ (S .args .us .now) (S .args .w) (S .args .c) (S .args .k) (c .before .before .before .before .loop .i) (S .pre .1 .2) (S .pre .1 .3) (c .before .before .before .loop-test .taken) in
+    let f = column-room 0 [] _ (S .args .us .now) (S .args .w) (S .args .c) (S .args .k) (c .before .before .before .before .loop .i) (S .pre .1 .1) (S .pre .1 .2) (c .before .before .before .loop-test .taken) in
     omega (arith, f)
 
 shared-slice-read-feed : tie.Need-shared-slice-read-feed Inv-loop μ-loop
 shared-slice-read-feed c =
     let S = c .before .before .before .before .before .before .before .before .before .before .before .before .before .before in
-    let f = column-room 0 [] _ (S .args .us .now) (S .args .w) (S .args .c) (S .args .k) (c .before .before .before .before .before .loop .i) (S .pre .1 .2) (S .pre .1 .3) (c .before .before .before .before .loop-test .taken) in
+    let f = column-room 0 [] _ (S .args .us .now) (S .args .w) (S .args .c) (S .args .k) (c .before .before .before .before .before .loop .i) (S .pre .1 .1) (S .pre .1 .2) (c .before .before .before .before .loop-test .taken) in
     omega (arith, f)
 
 feed-requires : tie.Need-feed-requires Inv-loop μ-loop
@@ -76,17 +74,17 @@ loop-again c =
     let l = c .before .before .before .loop in
     let inv = l .inv in
     let A = c .before .before .before .before .before .before .before .before .before .before .before .before .args in
-    let K = c .before .kind in
+    let K = c .before .is-free in
     let t = c .before .before .loop-test .taken in
     let here : l .h < length (l .reg) = omega (arith, inv .0, inv .1) in
     ⊎-elim
     (λ x. (
       omega (arith, x .7, x .3 .ensures .0, inv .1),
       ap length (x .6) ∙ x .3 .kept .0 ∙ inv .1,
-      dividing-free _ _ _ _ _ _ _ _ _ _ (inv .2) t (K .ensures) (x .0 .taken) _
+      dividing-free _ _ _ _ _ _ _ _ _ (inv .2) t (K .ensures) (x .0 .taken) _
           (ap₂ turned (x .6) (x .7) ∙ x .3 .ensures .1 ∙ ap (λ (n : ℕ). fed n (turned (l .reg) (l .h)) (getD (A .us .now) (l .i * A .w + A .k) 0)) (sym (length-turned (l .reg) (l .h) here))),
     ))
-    (λ x. (omega (arith, x .2, inv .0), ap length (x .1) ∙ inv .1, rw (x .1, x .2) (dividing-frozen _ _ _ _ _ _ _ _ _ _ (inv .2) t (K .ensures) (x .0 .left))))
+    (λ x. (omega (arith, x .2, inv .0), ap length (x .1) ∙ inv .1, rw (x .1, x .2) (dividing-frozen _ _ _ _ _ _ _ _ _ (inv .2) t (K .ensures) (x .0 .left))))
     (c .if1 .came)
 
 same-length : tie.Need-same-length Inv-loop μ-loop
@@ -108,7 +106,7 @@ divide-spec =
     unit-word-requires
     start-requires
     loop-holds
-    kind-requires
+    is-free-requires
     mul-feed
     add-feed
     mul-feed-2

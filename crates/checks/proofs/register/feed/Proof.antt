@@ -8,18 +8,6 @@ use Rattle.checks.proofs.Turning.{slot-in, fed-ring}
 use Rattle.checks.proofs.register.feed.Statement.{statement}
 use Rattle.checks.proofs.register.feed.Tie as tie
 
-mul-o : tie.Need-mul-o
-mul-o c = search needs
-
-slice-read-o : tie.Need-slice-read-o
-slice-read-o c = search needs
-
-mul-reg : tie.Need-mul-reg
-mul-reg c = search needs
-
-slice-write-reg : tie.Need-slice-write-reg
-slice-write-reg c = search needs
-
 slot-requires : tie.Need-slot-requires
 slot-requires c κs =
     let A = c .before .before .args in
@@ -51,11 +39,4 @@ pub feed-spec : {M : Type 1} → statement M
 feed-spec =
     tie.close
     (tie.spec
-    mul-o
-    slice-read-o
-    mul-reg
-    slice-write-reg
-    slot-requires
-    add-taps-requires
-    same-length
-    returns)
+    (λ c. search needs) (λ c. search needs) (λ c. search needs) (λ c. search needs) slot-requires add-taps-requires same-length returns)

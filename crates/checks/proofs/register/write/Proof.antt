@@ -8,12 +8,6 @@ use Rattle.checks.proofs.Columns.{columns-long}
 use Rattle.checks.proofs.register.write.Statement.{statement}
 use Rattle.checks.proofs.register.write.Tie as tie
 
-returns : tie.Need-returns
-returns c = search needs
-
-array-borrow-prefix-reg : tie.Need-array-borrow-prefix-reg
-array-borrow-prefix-reg c = search needs
-
 slice-aggregate-columns : tie.Need-slice-aggregate-columns
 slice-aggregate-columns c = sym (length-take-le _ _ (c .before .before .before .before .before .pre .0))
 
@@ -22,21 +16,10 @@ columns-requires c κs =
     let S = c .before .before .before .before .before .before in
     let l = length-take-le (S .args .r) (replicate {A = ℕ} 11 0) (S .pre .0) in
     let z : 0 < S .args .r = omega arith in
-    (omega (arith, l, z), (omega (arith, l, S .pre .0), S .pre .1, S .pre .2, S .pre .3 ∙ ap (λ (x : ℕ). x * S .args .w) (sym l)))
-
-same-length : tie.Need-same-length
-same-length c = search needs
+    (omega (arith, l, z), (omega (arith, l, S .pre .0), S .pre .1, S .pre .2 ∙ ap (λ (x : ℕ). x * S .args .w) (sym l)))
 
 returns-2 : tie.Need-returns-2
 returns-2 c = columns-long _ _ _ _ _ _ _ (c .before .before .before .columns .last .1 .1 .1 .1 .1 .1 .0) (length-take-le _ _ (c .before .before .before .before .before .before .before .before .before .before .pre .0)) (c .before .before .before .columns .ensures)
 
 pub write-spec : {M : Type 1} → statement M
-write-spec =
-    tie.close
-    (tie.spec
-    returns
-    array-borrow-prefix-reg
-    slice-aggregate-columns
-    columns-requires
-    same-length
-    returns-2)
+write-spec = tie.close (tie.spec (λ c. search needs) (λ c. search needs) slice-aggregate-columns columns-requires (λ c. search needs) returns-2)

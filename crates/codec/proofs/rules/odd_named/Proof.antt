@@ -6,8 +6,8 @@ use borrow.Author.Needs.{needs}
 use Rattle.bits.specs.Vectors.{bit}
 use Rattle.meaning.specs.Limits.{maskBytes}
 use Rattle.meaning.specs.Sheet.{names}
-use Rattle.masks.specs.Masks.{maskWords}
-use Rattle.masks.proofs.Joining.{word-there}
+use Rattle.sheet.specs.Masks.{maskWords}
+use Rattle.sheet.proofs.Joining.{word-there}
 use Rattle.codec.proofs.Packing.{oddFirst, word-more, word-bits, all-words}
 use Rattle.codec.proofs.rules.odd_named.Statement.{statement}
 use Rattle.codec.proofs.rules.odd_named.Tie as tie
@@ -21,8 +21,8 @@ abbrev μ-loop : tie.MeasureT-loop
 loop-holds : tie.Need-loop-holds Inv-loop μ-loop
 loop-holds c = (omega arith, refl)
 
-word-requires : tie.Need-word-requires Inv-loop μ-loop
-word-requires c κs = search needs
+mask-word-requires : tie.Need-mask-word-requires Inv-loop μ-loop
+mask-word-requires c κs = search needs
 
 mul-parity : tie.Need-mul-parity Inv-loop μ-loop
 unfolding maskBytes
@@ -52,7 +52,7 @@ loop-again c =
     let A = start .args in
     let k = turn .before .loop .k in
     let inv = turn .before .loop .inv in
-    let W = call .word in (
+    let W = call .mask-word in (
       omega arith,
       ap₂ bitXor (inv .1) (c .parity .ensures)
           ∙ word-more (names (A .sheet .now) (A .i)) (A .values .now) k (W .result)
@@ -75,7 +75,7 @@ odd-named-spec =
     Inv-loop
     μ-loop
     loop-holds
-    word-requires
+    mask-word-requires
     mul-parity
     shared-slice-read-parity
     parity-requires

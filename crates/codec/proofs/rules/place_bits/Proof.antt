@@ -1,4 +1,4 @@
-use mathlib.Core.Path.{_≡_, refl, sym, _∙_}
+use mathlib.Core.Path.{refl, sym, _∙_}
 use mathlib.Core.Logic.{⊎-elim}
 use mathlib.Core.List.{map}
 use mathlib.Core.Bool.{false}
@@ -25,15 +25,14 @@ loop-holds : tie.Need-loop-holds Inv-loop μ-loop
 unfolding maskBytes
 loop-holds c = let start = c .before .before .before in starts (start .args .sheet .now) _ _ (start .args .u .now) refl (length-map (start .args .free .now) isOne ∙ start .pre .1 .1)
 
-byte-at-requires : tie.Need-byte-at-requires Inv-loop μ-loop
-unfolding recordBytes maskBytes
-byte-at-requires c κs = omega (arith, c .before .loop .inv .long)
+is-free-requires : tie.Need-is-free-requires Inv-loop μ-loop
+is-free-requires c κs = tt
 
 shared-slice-read-b : tie.Need-shared-slice-read-b Inv-loop μ-loop
 shared-slice-read-b c =
     let turn = c .before .before .before in
     rw (← (length-map (turn .before .before .before .before .before .args .free .now) isOne))
-    (free-room _ _ _ _ _ _ _ (rw (turn .before .loop .inv .long) at (turn .loop-test .taken)) (turn .before .loop .inv) (sym (c .before .before .byte-at .ensures) ∙ c .before .if1 .taken))
+    (free-room _ _ _ _ _ _ _ (rw (turn .before .loop .inv .long) at (turn .loop-test .taken)) (turn .before .loop .inv) (sym (c .before .before .is-free .ensures) ∙ c .before .if1 .taken))
 
 add-next : tie.Need-add-next Inv-loop μ-loop
 unfolding maskBytes recordBytes
@@ -62,7 +61,7 @@ remember-requires c κs =
       omega (arith, inv .wide, inv .long, start .pre .0 .1),
       ⊎-elim
           (λ w.
-          let e : byte (start .args .sheet .now) (turn .before .loop .i) 0 ≡ 0 = sym (c .before .before .byte-at .ensures) ∙ w .0 .taken in
+          let e = sym (c .before .before .is-free .ensures) ∙ w .0 .taken in
           let h : turn .before .loop .i < length (start .args .u .now) = rw (inv .long) at (turn .loop-test .taken) in
           small _ (getD (map isOne (start .args .free .now)) (turn .before .loop .next) false) (w .3 ∙ free-bit (start .args .free .now) _ (start .pre .1 .0) (free-room _ _ _ _ _ _ _ h inv e)))
           (λ w. small _ (eqb (byte (start .args .sheet .now) (turn .before .loop .i) 1) 1 ⊕ odd (mask (start .args .sheet .now) (turn .before .loop .i)) (held (turn .before .loop .values))) (w .4 ∙ w .2 .ensures))
@@ -90,9 +89,9 @@ loop-again c =
     rw (call .remember .ensures)
     (⊎-elim
     (λ w.
-    let e : byte s (turn .before .loop .i) 0 ≡ 0 = sym (join .before .byte-at .ensures) ∙ w .0 .taken in
+    let e = sym (join .before .is-free .ensures) ∙ w .0 .taken in
     rw (w .2) (free-goes s _ _ _ _ _ _ h inv (start .pre .0 .1) e _ (w .3 ∙ free-bit free _ (start .pre .1 .0) (free-room s _ _ _ _ _ _ h inv e))))
-    (λ w. rw (w .3) (frozen-goes s _ _ _ _ _ _ h inv (start .pre .0 .1) (λ e. w .0 .left (join .before .byte-at .ensures ∙ e)) _ (w .4 ∙ w .2 .ensures)))
+    (λ w. rw (w .3) (frozen-goes s _ _ _ _ _ _ h inv (start .pre .0 .1) (sym (join .before .is-free .ensures) ∙ w .0 .left) _ (w .4 ∙ w .2 .ensures)))
     (join .if1 .came))
 
 same-length : tie.Need-same-length Inv-loop μ-loop
@@ -108,7 +107,7 @@ place-bits-spec =
     Inv-loop
     μ-loop
     loop-holds
-    byte-at-requires
+    is-free-requires
     shared-slice-read-b
     add-next
     slice-aggregate-rule-bit

@@ -17,12 +17,6 @@ slice-read-values : tie.Need-slice-read-values
 unfolding maskBytes
 slice-read-values c = omega arith
 
-wide-requires : tie.Need-wide-requires
-wide-requires c κs = search needs
-
-shl-values : tie.Need-shl-values
-shl-values c = search needs
-
 mul-values-2 : tie.Need-mul-values-2
 unfolding maskBytes
 mul-values-2 c = omega arith
@@ -30,9 +24,6 @@ mul-values-2 c = omega arith
 slice-write-values : tie.Need-slice-write-values
 unfolding maskBytes
 slice-write-values c = omega arith
-
-same-length : tie.Need-same-length
-same-length c = search needs
 
 returns : tie.Need-returns
 returns c =
@@ -46,11 +37,4 @@ pub remember-spec : {M : Type 1} → statement M
 remember-spec =
     tie.close
     (tie.spec
-    mul-values
-    slice-read-values
-    wide-requires
-    shl-values
-    mul-values-2
-    slice-write-values
-    same-length
-    returns)
+    mul-values slice-read-values (λ c κs. search needs) (λ c. search needs) mul-values-2 slice-write-values (λ c. search needs) returns)

@@ -16,12 +16,6 @@ lend u = take (length u - 0) (replicate {A = ℕ} (8 * maskBytes) 0)
 room-for : (u : List ℕ) → length u ≤ 8 * maskBytes → length (lend u) ≡ length u
 room-for u h = simp length-take (omega (arith, length-replicate {A = ℕ} (8 * maskBytes) 0))
 
-sub-place-bits : tie.Need-sub-place-bits
-sub-place-bits c = search needs
-
-part-v-start : tie.Need-part-v-start
-part-v-start c = search needs
-
 part-v-end : tie.Need-part-v-end
 unfolding maskBytes
 part-v-end c = omega arith
@@ -34,12 +28,6 @@ place-bits-requires c κs =
     let el = room-for u (start .pre .0 .1) in
     lent (start .args .sheet .now) (start .args .free .now) u (lend u) el (start .pre)
 
-sub-same : tie.Need-sub-same
-sub-same c = search needs
-
-part-same-start : tie.Need-part-same-start
-part-same-start c = search needs
-
 part-same-end : tie.Need-part-same-end
 unfolding maskBytes
 part-same-end c =
@@ -47,9 +35,6 @@ part-same-end c =
     let start = c .before .before .before .before .before .before .before in
     let u = start .args .u .now in
     within (start .args .sheet .now) (start .args .free .now) u (lend u) (room-for u (start .pre .0 .1)) (call .place-bits .last .1 .1 .0) _ (call .place-bits .kept .1 .1 .0)
-
-same-requires : tie.Need-same-requires
-same-requires c κs = search needs
 
 returns : tie.Need-returns
 unfolding maskBytes
@@ -64,12 +49,5 @@ pub ruled-spec : {M : Type 1} → statement M
 ruled-spec =
     tie.close
     (tie.spec
-    sub-place-bits
-    part-v-start
-    part-v-end
-    place-bits-requires
-    sub-same
-    part-same-start
-    part-same-end
-    same-requires
+    (λ c. search needs) (λ c. search needs) part-v-end place-bits-requires (λ c. search needs) (λ c. search needs) part-same-end (λ c κs. search needs)
     returns)

@@ -3,7 +3,6 @@ use mathlib.Core.Logic.{⊎-elim}
 use Prim.Native.Nat.{_-_}
 use native.Mathlib.Omega.{arith}
 use lib.ListN.{length, length-set}
-use Rattle.meaning.specs.Limits.{recordBytes, maskBytes}
 use Rattle.codec.proofs.Placing.{Taking, take-room, free-taken, frozen-passed, taken}
 use Rattle.codec.proofs.rules.take_free.Statement.{statement}
 use Rattle.codec.proofs.rules.take_free.Tie as tie
@@ -17,9 +16,8 @@ abbrev μ-loop : tie.MeasureT-loop
 loop-holds : tie.Need-loop-holds Inv-loop μ-loop
 loop-holds c = (refl, record { low = omega arith; room = let e = c .before .before .before .pre .1 in omega arith; left = refl })
 
-byte-at-requires : tie.Need-byte-at-requires Inv-loop μ-loop
-unfolding recordBytes maskBytes
-byte-at-requires c κs = omega arith
+is-free-requires : tie.Need-is-free-requires Inv-loop μ-loop
+is-free-requires c κs = tt
 
 shared-slice-read-free : tie.Need-shared-slice-read-free Inv-loop μ-loop
 shared-slice-read-free c = c .before .before .before .loop-test .taken
@@ -28,7 +26,7 @@ slice-write-free : tie.Need-slice-write-free Inv-loop μ-loop
 slice-write-free c =
     let turn = c .before .before .before in
     let start = turn .before .before .before .before .before in
-    take-room _ _ _ refl (start .pre .0 .1) _ _ _ (turn .loop-test .taken) (turn .before .loop .inv .1) (sym (c .before .before .byte-at .ensures) ∙ c .before .if1 .taken)
+    take-room _ _ _ refl (start .pre .0 .1) _ _ _ (turn .loop-test .taken) (turn .before .loop .inv .1) (sym (c .before .before .is-free .ensures) ∙ c .before .if1 .taken)
 
 add-next : tie.Need-add-next Inv-loop μ-loop
 add-next c = omega (arith, slice-write-free c)
@@ -46,9 +44,9 @@ loop-again c =
     let inv = turn .before .loop .inv in
     ⊎-elim
     (λ w.
-    let e = sym (c .before .byte-at .ensures) ∙ w .0 .taken in
+    let e = sym (c .before .is-free .ensures) ∙ w .0 .taken in
     (rw (w .2) (length-set (turn .before .loop .free) _ _ ∙ inv .0), rw (w .2, w .3) (free-taken _ _ _ refl (start .pre .0 .1) _ _ _ (turn .loop-test .taken) (inv .1) e)))
-    (λ w. (rw (w .1) (inv .0), rw (w .1, w .2) (frozen-passed _ _ _ refl (start .pre .0 .1) _ _ _ (turn .loop-test .taken) (inv .1) (λ e. w .0 .left (c .before .byte-at .ensures ∙ e)))))
+    (λ w. (rw (w .1) (inv .0), rw (w .1, w .2) (frozen-passed _ _ _ refl (start .pre .0 .1) _ _ _ (turn .loop-test .taken) (inv .1) (sym (c .before .is-free .ensures) ∙ w .0 .left))))
     (c .if1 .came)
 
 same-length : tie.Need-same-length Inv-loop μ-loop
@@ -64,7 +62,7 @@ take-free-spec =
     Inv-loop
     μ-loop
     loop-holds
-    byte-at-requires
+    is-free-requires
     shared-slice-read-free
     slice-write-free
     add-next

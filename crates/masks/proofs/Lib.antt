@@ -1,2 +1,0 @@
--- Joining: the bits of a mask's word, byte by byte.
-pub mod Joining

@@ -1,2 +1,0 @@
--- Masks: what a word of a mask says.
-pub mod Masks
