@@ -1,20 +1,21 @@
 -- The faults of form, and decoding where one applies and where none does.
---     fault-sheet, fault-word, fault-ceiling, fault-none     the fault of form, test by test
+--     fault-call, fault-ceiling, fault-none                  the fault of form, test by test
 --     decode-refused                                         decoding is refused for it
 --     form-none, decode-formed                               nothing is refused: what is left to decide
 --     decode-passed, decode-decided                          the same, where no fault was found
 --     over, formed-at, decided-at                            the unknowns are counted first
---     row-fits, within, rows-long, rows-back                 there is room for the rows
+--     row-fits, few-words, within, wide-fits, check-fits, rows-long, rows-back     there is room for the rows
 use mathlib.Core.Path.{_≡_, refl, sym, ap, _∙_}
+use mathlib.Core.Logic.{_⊎_}
 use Prim.Native.Nat.{ℕ, _+_, _*_, _-_, _/_, _^_, _≤_, _<_}
-use native.Mathlib.Nat.{le-trans, le-of-eq, mul-le-mul}
+use native.Mathlib.Nat.{add-mul, mul-le-mul}
 use native.Mathlib.Omega.{arith}
 use mathlib.Core.Bool.{Bool, true, false}
 use mathlib.Core.List.{List, [], _∷_, _++_, append-assoc}
 use lib.ListN.{length, take, length-take}
 use lib.Dec.{ltb}
 use lib.Pow.{pow-mono}
-use borrow.Author.Tests.{lt-ltb, le-ltb, le-leb, eq-eqb, ltb-false}
+use borrow.Author.Tests.{lt-ltb, le-ltb, ltb-false}
 use borrow.Rule.Slice.PartMut.{postOf, same-len-mid}
 use Rattle.bits.specs.Vectors.{pick}
 use Rattle.bits.proofs.Tests.{or-false-l}
@@ -22,67 +23,55 @@ use Rattle.meaning.specs.Limits.{largestN, recordBytes, largestCeiling}
 use Rattle.meaning.specs.Sheet.{rules}
 use Rattle.meaning.specs.Codewords.{candidates}
 use Rattle.meaning.specs.Open.{unknowns, equations}
-use Rattle.meaning.specs.Answers.{Refusal, Reply, _⇒_, firstOf, isDone, checking, wording, refuses, sheetRefusals, wordRefusals, formRefusals, decodeRefusals, leaving, verdict, decoding}
+use Rattle.meaning.specs.Answers.{Refusal, Reply, _⇒_, isDone, refuses, fault, sheetRefusals, wordRefusals, callRefusals, formRefusals, decodeRefusals, leaving, verdict, decoding}
 use Rattle.meaning.specs.declared.Answer.{Answer}
 use Rattle.meaning.specs.declared.Answer.the-variants.{Done, BadCeiling, TooMany}
 use Rattle.meaning.proofs.Refusals.{tried-done, tried-refused, past-none, none-append, both-none}
-use Rattle.meaning.proofs.Forms.{good, checked-none, worded, worded-none}
-use Rattle.form.proofs.Records.{records-in}
-use Rattle.counting.specs.Counting.{shaped, counting}
+use Rattle.meaning.proofs.Forms.{form-parts}
+use Rattle.sheet.proofs.Calls.{size-is, call-same}
+use Rattle.sheet.proofs.Shapes.{shaped-when}
+use Rattle.counting.specs.Counting.{counting}
+use Rattle.counting.proofs.Lengths.{counting-all}
 use Rattle.descent.specs.Descending.{widest}
-use Rattle.decoder.specs.Deciding.{decodeFault, deciding, Formed}
-use Rattle.decoder.specs.Rooms.{mostWords}
+use Rattle.decoder.specs.Deciding.{deciding, Formed}
+use Rattle.system.specs.Solving.{longestCheck}
+use Rattle.system.proofs.Testing.{length-longest}
+use Rattle.decoder.specs.Rooms.{mostWide, mostWords}
 
 -- ---- the fault of form
 
 module _ (n : ℕ) (s : List ℕ) (r c : ℕ) (w : List ℕ) (room : ℕ) where
-  abbrev S : List Refusal
-  S = sheetRefusals n s r
+  -- 11 to 16, and 17
+  abbrev call : List Refusal
+  call = callRefusals n s r (2 ^ n) 2 (3 * 2 ^ n) w room
 
-  abbrev W : List Refusal
-  W = wordRefusals (2 ^ n) 2 (3 * 2 ^ n) w room
+  abbrev ceiling : List Refusal
+  ceiling = (ltb largestCeiling c ⇒ BadCeiling) ∷ []
 
-  abbrev C : List Refusal
-  C = (ltb largestCeiling c ⇒ BadCeiling) ∷ []
+  -- N, in the value that the code has
+  module _ (k : ℕ) (ek : k ≡ length s / recordBytes) (a : Answer) (ea : a ≡ fault (callRefusals n s r k 2 (3 * k) w room)) (b : Bool) (eb : b ≡ isDone a) where
+    meant : a ≡ fault call
+    meant = ea ∙ call-same n s r k 2 (3 * k) w room (2 ^ n) (3 * 2 ^ n) (λ h. let e : k ≡ 2 ^ n = ek ∙ size-is n s r h in (e, ap (λ (j : ℕ). 3 * j) e))
 
-  table : decodeFault n s r c w room ≡ firstOf (λ (x : Answer). x) (S ++ (W ++ C)) Done
-  unfolding decodeFault
-  table = ap (λ (t : List Refusal). firstOf (λ (x : Answer). x) t Done) (append-assoc S W C)
+    pub fault-call : b ≡ false → a ≡ fault (formRefusals n s r c w room)
+    unfolding formRefusals
+    fault-call t = meant ∙ sym (tried-refused (λ (x : Answer). x) call ceiling Done (ap isDone (sym meant) ∙ sym eb ∙ t))
 
-  module _ (a : Answer) (ea : a ≡ checking n s r) (b : Bool) (eb : b ≡ isDone a) where
-    pub fault-sheet : b ≡ false → a ≡ decodeFault n s r c w room
-    unfolding checking
-    fault-sheet t = ea ∙ sym (tried-refused (λ (x : Answer). x) S (W ++ C) Done (ap isDone (sym ea) ∙ sym eb ∙ t)) ∙ sym table
+    past-call : b ≡ true → fault (formRefusals n s r c w room) ≡ fault ceiling
+    unfolding formRefusals sheetRefusals wordRefusals
+    past-call t = past-none (λ (x : Answer). x) call ceiling Done (tried-done call refl (ap isDone (sym meant) ∙ sym eb ∙ t))
 
-    module _ (t : b ≡ true) (v : Answer) (ev : v ≡ wording (length s / recordBytes) 2 (3 * (length s / recordBytes)) w room) (d : Bool) (ed : d ≡ isDone v) where
-      sheet-none : refuses S ≡ false
-      sheet-none = checked-none n s r (ap isDone (sym ea) ∙ sym eb ∙ t)
+    pub fault-ceiling : b ≡ true → largestCeiling < c → BadCeiling ≡ fault (formRefusals n s r c w room)
+    fault-ceiling t h = sym (past-call t ∙ rw (lt-ltb largestCeiling c h) refl)
 
-      -- N, in the value that the code has
-      meant : v ≡ wording (2 ^ n) 2 (3 * 2 ^ n) w room
-      meant = ev ∙ ap (λ (k : ℕ). wording k 2 (3 * k) w room) (records-in (length s) (2 ^ n) ((good n s r sheet-none) .long))
-
-      past-sheet : decodeFault n s r c w room ≡ firstOf (λ (x : Answer). x) (W ++ C) Done
-      past-sheet = table ∙ past-none (λ (x : Answer). x) S (W ++ C) Done sheet-none
-
-      pub fault-word : d ≡ false → v ≡ decodeFault n s r c w room
-      unfolding wording
-      fault-word q = meant ∙ sym (tried-refused (λ (x : Answer). x) W C Done (ap isDone (sym meant) ∙ sym ed ∙ q)) ∙ sym past-sheet
-
-      past-word : d ≡ true → decodeFault n s r c w room ≡ pick (ltb largestCeiling c) BadCeiling Done
-      past-word q = past-sheet ∙ past-none (λ (x : Answer). x) W C Done (worded-none (2 ^ n) 2 (3 * 2 ^ n) w room (ap isDone (sym meant) ∙ sym ed ∙ q))
-
-      pub fault-ceiling : d ≡ true → largestCeiling < c → BadCeiling ≡ decodeFault n s r c w room
-      fault-ceiling q h = sym (past-word q ∙ rw (lt-ltb largestCeiling c h) refl)
-
-      pub fault-none : d ≡ true → c ≤ largestCeiling → Done ≡ decodeFault n s r c w room
-      fault-none q h = sym (past-word q ∙ rw (le-ltb largestCeiling c h) refl)
+    pub fault-none : b ≡ true → c ≤ largestCeiling → Done ≡ fault (formRefusals n s r c w room)
+    fault-none t h = sym (past-call t ∙ rw (le-ltb largestCeiling c h) refl)
 
 -- ---- decoding
 
 module _ (n : ℕ) (s : List ℕ) (r c : ℕ) (w out : List ℕ) where
   abbrev F : List Refusal
-  F = formRefusals n s r c w out
+  F = formRefusals n s r c w (length out)
 
   abbrev G : ℕ
   G = unknowns n (rules n s) w
@@ -92,19 +81,15 @@ module _ (n : ℕ) (s : List ℕ) (r c : ℕ) (w out : List ℕ) where
 
   pub form-none : refuses (sheetRefusals n s r) ≡ false → refuses (wordRefusals (2 ^ n) 2 (3 * 2 ^ n) w (length out)) ≡ false → c ≤ largestCeiling → refuses F ≡ false
   unfolding formRefusals
-  form-none p q h = both-none (S n s r c w (length out) ++ W n s r c w (length out)) _ (both-none (S n s r c w (length out)) _ p q) (rw (le-ltb largestCeiling c h) refl)
+  form-none p q h = both-none (call n s r c w (length out)) _ (both-none (sheetRefusals n s r) _ p q) (rw (le-ltb largestCeiling c h) refl)
 
   pub decode-formed : refuses F ≡ false → deciding n s r c w out ≡ decoding n s r c w out
   unfolding deciding decoding decodeRefusals
   decode-formed h = sym (past-none (leaving out) F ((ltb c G ⇒ TooMany G) ∷ []) last h)
 
   formed : refuses F ≡ false → Formed n s r c w out
-  unfolding formRefusals
   formed h =
-      let (p, u) = none-append (S n s r c w (length out) ++ W n s r c w (length out)) _ h in
-      let (q, v) = none-append (S n s r c w (length out)) _ p in
-      let g = good n s r q in
-      let d = worded (2 ^ n) 2 (3 * 2 ^ n) w (length out) v in
+      let (g, d, low) = form-parts n s r c w (length out) h in
       record {
         small = g .small;
         long = g .long;
@@ -113,16 +98,16 @@ module _ (n : ℕ) (s : List ℕ) (r c : ℕ) (w out : List ℕ) where
         enough = g .roomy;
         symbols = d .long;
         room = d .roomy;
-        low = ltb-false largestCeiling c (or-false-l (ltb largestCeiling c) false u);
+        low = low;
       }
 
-  module _ (a : Answer) (ea : a ≡ decodeFault n s r c w (length out)) (b : Bool) (eb : b ≡ isDone a) where
+  module _ (a : Answer) (ea : a ≡ fault (formRefusals n s r c w (length out))) (b : Bool) (eb : b ≡ isDone a) where
     pub decode-refused : b ≡ false → leaving out a ≡ decoding n s r c w out
-    unfolding decodeFault decoding decodeRefusals formRefusals
+    unfolding decoding decodeRefusals formRefusals
     decode-refused t = ap (leaving out) ea ∙ sym (tried-refused (leaving out) F ((ltb c G ⇒ TooMany G) ∷ []) last (ap isDone (sym ea) ∙ sym eb ∙ t))
 
     none : b ≡ true → refuses F ≡ false
-    unfolding decodeFault formRefusals sheetRefusals wordRefusals
+    unfolding formRefusals sheetRefusals wordRefusals
     none t = tried-done F refl (ap isDone (sym ea) ∙ sym eb ∙ t)
 
     pub decode-passed : b ≡ true → Formed n s r c w out
@@ -136,8 +121,7 @@ module _ (n : ℕ) (s : List ℕ) (r c : ℕ) (w out : List ℕ) where
 -- a word for each 64 unknowns, and one for the constant
 module _ (n : ℕ) (s : List ℕ) (r c : ℕ) (w out : List ℕ) (F : Formed n s r c w out) (g : ℕ) (eg : g ≡ counting n s w) where
   pub all-counted : g ≡ unknowns n (rules n s) w
-  unfolding counting shaped
-  all-counted = eg ∙ rw (le-leb n largestN (F .small), eq-eqb (length s) (2 ^ n * recordBytes) (F .long), eq-eqb (length w) (2 ^ n) (F .symbols)) refl
+  all-counted = eg ∙ counting-all n s w refl (shaped-when n (length s) (length w) (F .small) (F .long) (F .symbols))
 
   pub over : c < g → leaving out (TooMany g) ≡ deciding n s r c w out
   unfolding deciding
@@ -162,21 +146,33 @@ module _ (n : ℕ) (s : List ℕ) (r c : ℕ) (w out : List ℕ) (F : Formed n s
     unfolding deciding
     decided-at x p = p ∙ rw (le-ltb g (unknowns n (rules n s) w) (omega (arith, all-counted)), le-ltb c (unknowns n (rules n s) w) (omega (arith, all-counted))) refl
 
-    pub row-fits : (g / 64 + 1 < g / 64 + 1 + 1) × (g / 64 + 1 + 1 ≤ widest) × (g ≤ 64 * (g / 64 + 1))
-    unfolding widest largestCeiling
-    row-fits = let l = F .low in (omega arith, omega arith, omega arith)
+    pub row-fits : g ≤ 64 * (g / 64 + 1)
+    row-fits = omega arith
 
-    few-words : g / 64 + 1 + 1 ≤ largestCeiling / 64 + 2
+    pub few-words : g / 64 + 1 + 1 ≤ mostWide
+    unfolding mostWide
     few-words = let l = F .low in omega (arith, h)
 
     -- there is room for the rows of N symbols
     pub within : length w * (g / 64 + 1 + 1) ≤ mostWords
     unfolding mostWords
-    within = mul-le-mul (le-trans (le-of-eq (F .symbols)) (pow-mono (F .small))) few-words
+    within =
+        let p = pow-mono {i = n} {j = largestN} (F .small) in
+        let q : length w ≤ 2 ^ largestN = omega (arith, F .symbols) in
+        mul-le-mul q few-words
 
--- the rows of N symbols, of a list with room for them
-pub rows-long : (n c : ℕ) (w l : List ℕ) → length w ≡ 2 ^ n → length w * (c + 1) ≤ length l → length (take (length w * (c + 1) - 0) l) ≡ 2 ^ n * (c + 1)
-rows-long n c w l e h = simp length-take (omega (arith, h)) ∙ ap (λ (t : ℕ). t * (c + 1)) e
+-- a row is not too wide
+pub wide-fits : (w : ℕ) → w ≤ mostWide → w ≤ widest
+unfolding widest mostWide largestCeiling
+wide-fits w h = omega arith
+
+-- room for the check's rows
+pub check-fits : (k r w l : ℕ) → (r ≡ 0) ⊎ ((r ≡ 6) ⊎ (r ≡ 11)) → w ≤ mostWide → k * w ≤ l → (k + r) * w ≤ l + longestCheck * mostWide
+check-fits k r w l c v h = omega (arith, add-mul k r w, mul-le-mul (length-longest c) v)
+
+-- k rows of a list with room for them
+pub rows-long : (k i w : ℕ) (l : List ℕ) → k ≡ i → k * w ≤ length l → length (take (k * w - 0) l) ≡ i * w
+rows-long k i w l e h = simp length-take (omega (arith, h)) ∙ ap (λ (t : ℕ). t * w) e
 
 -- a list whose rows came back is as long as before
 pub rows-back : (k : ℕ) (l x : List ℕ) → length x ≡ length (take (k - 0) l) → length (x ++ postOf 0 (k - 0) l) ≡ length l

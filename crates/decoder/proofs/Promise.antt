@@ -21,21 +21,21 @@ use Rattle.meaning.specs.Sheet.{rules, frees}
 use Rattle.meaning.specs.Codewords.{erased, candidates}
 use Rattle.meaning.specs.Open.{unknowns, equations}
 use Rattle.meaning.specs.Strips.{strips}
-use Rattle.meaning.specs.Answers.{Reply, numbersOf, refuses, formRefusals, leaving, decoding}
+use Rattle.meaning.specs.Answers.{Reply, numbersOf, refuses, formRefusals, reply, decoding}
 use Rattle.meaning.specs.declared.Answer.{Answer}
 use Rattle.meaning.specs.declared.Answer.the-variants.{TooMany}
 use Rattle.meaning.proofs.Determined.{reply-determined}
-use Rattle.meaning.proofs.Demands.{code, over-iff, unique-iff, inconsistent-iff, ambiguous-iff, shown, SameFate, demand-3}
+use Rattle.meaning.proofs.Demands.{code, over-iff, unique-iff, inconsistent-iff, ambiguous-iff, strips-shown, SameFate, demand-3}
 use Rattle.planning.specs.Filled.{filledIn}
 use Rattle.planning.specs.MoreKnown.{codeOf, gOf, mOf, formed, MoreKnown}
 use Rattle.planning.proofs.Known.{numbers, balanced, more-known}
 use Rattle.planning.proofs.Ceiling.{lowered, enough}
 
-module _ (n : ℕ) (s : List ℕ) (r c : ℕ) (w out x : List ℕ) (a : Answer) (p : leaving x a ≡ decoding n s r c w out) where
-  pub decode-determined : (x′ : List ℕ) (a′ : Answer) → leaving x′ a′ ≡ decoding n s r c w out → (a ≡ a′) × (x ≡ x′)
+module _ (n : ℕ) (s : List ℕ) (r c : ℕ) (w out x : List ℕ) (a : Answer) (p : reply x a ≡ decoding n s r c w out) where
+  pub decode-determined : (x′ : List ℕ) (a′ : Answer) → reply x′ a′ ≡ decoding n s r c w out → (a ≡ a′) × (x ≡ x′)
   decode-determined x′ a′ q = reply-determined a a′ x x′ (decoding n s r c w out) p q
 
-  module _ (ok : refuses (formRefusals n s r c w out) ≡ false) where
+  module _ (ok : refuses (formRefusals n s r c w (length out)) ≡ false) where
     abbrev g : ℕ
     g = unknowns n (rules n s) w
 
@@ -59,19 +59,19 @@ module _ (n : ℕ) (s : List ℕ) (r c : ℕ) (w out x : List ℕ) (a : Answer) 
       some-agree d = subst (λ (t : Reply). (numbersOf (t .answer) ≡ 1 ∷ 0 ∷ g ∷ m ∷ d ∷ []) ↔ ((1 ≤ d) × (length cs ≡ 2 ^ d))) (sym p) (ambiguous-iff n s r c w out ok h d)
 
       pub written-strips : 0 < length cs → x ≡ strips n cs ++ drop (length (strips n cs)) out
-      written-strips l = subst (λ (t : Reply). t .bytes ≡ strips n cs ++ drop (length (strips n cs)) out) (sym p) (shown n s r c w out ok h l)
+      written-strips l = subst (λ (t : Reply). t .bytes ≡ strips n cs ++ drop (length (strips n cs)) out) (sym p) (strips-shown n s r c w out ok h l)
 
 pub same-fate : (n : ℕ) (s : List ℕ) (r c : ℕ) (w w′ out out′ x x′ : List ℕ) (a a′ : Answer) → map erased w ≡ map erased w′
-    → leaving x a ≡ decoding n s r c w out → leaving x′ a′ ≡ decoding n s r c w′ out′ → refuses (formRefusals n s r c w out) ≡ false → refuses (formRefusals n s r c w′ out′) ≡ false
-    → SameFate n (leaving x a) (leaving x′ a′)
+    → reply x a ≡ decoding n s r c w out → reply x′ a′ ≡ decoding n s r c w′ out′ → refuses (formRefusals n s r c w (length out)) ≡ false → refuses (formRefusals n s r c w′ (length out′)) ≡ false
+    → SameFate n (reply x a) (reply x′ a′)
 same-fate n s r c w w′ out out′ x x′ a a′ e p q ok ok′ =
-    subst (λ (t : Reply). SameFate n t (leaving x′ a′)) (sym p) (subst (λ (t : Reply). SameFate n (decoding n s r c w out) t) (sym q) (demand-3 n s r w w′ e c out out′ ok ok′))
+    subst (λ (t : Reply). SameFate n t (reply x′ a′)) (sym p) (subst (λ (t : Reply). SameFate n (decoding n s r c w out) t) (sym q) (demand-3 n s r w w′ e c out out′ ok ok′))
 
 -- ---- another word, or another ceiling
 
 -- neither answer is a refusal for any reason but 18
 pub more-read : (n : ℕ) (s : List ℕ) (r c : ℕ) (w w′ out out′ x x′ : List ℕ) (a a′ : Answer) → filledIn w w′ ≡ true
-    → leaving x a ≡ decoding n s r c w out → leaving x′ a′ ≡ decoding n s r c w′ out′ → formed (numbersOf a) ≡ true → formed (numbersOf a′) ≡ true
+    → reply x a ≡ decoding n s r c w out → reply x′ a′ ≡ decoding n s r c w′ out′ → formed (numbersOf a) ≡ true → formed (numbersOf a′) ≡ true
     → MoreKnown n w w′ (numbersOf a) x (numbersOf a′) x′
 more-read n s r c w w′ out out′ x x′ a a′ f p q ok ok′ =
     let good : (t : Reply) (m : Reply) → t ≡ m → formed (numbers t) ≡ true → formed (numbers m) ≡ true = λ t m e k. rw (← e) k in
@@ -79,14 +79,14 @@ more-read n s r c w w′ out out′ x x′ a a′ f p q ok ok′ =
     (subst (λ (t : Reply). MoreKnown n w w′ (numbers (decoding n s r c w out)) ((decoding n s r c w out) .bytes) (numbers t) (t .bytes)) (sym q)
     (more-known n s r c w w′ f out out′ (good _ _ p ok) (good _ _ q ok′)))
 
-module _ (n : ℕ) (s : List ℕ) (r c : ℕ) (w out x : List ℕ) (a : Answer) (p : leaving x a ≡ decoding n s r c w out) where
+module _ (n : ℕ) (s : List ℕ) (r c : ℕ) (w out x : List ℕ) (a : Answer) (p : reply x a ≡ decoding n s r c w out) where
   pub counts-bound : formed (numbersOf a) ≡ true → (codeOf (numbersOf a) ≡ 18 → ⊥) → mOf (numbersOf a) + ones (map erased w) + frees (rules n s) ≡ 2 ^ n + r + gOf (numbersOf a)
   counts-bound ok h =
       subst (λ (t : Reply). mOf (numbers t) + ones (map erased w) + frees (rules n s) ≡ 2 ^ n + r + gOf (numbers t)) (sym p)
       (balanced n s r c w out (ap (λ (t : Reply). formed (numbers t)) (sym p) ∙ ok) (λ e. h (ap (λ (t : Reply). codeOf (numbers t)) p ∙ e)))
 
   -- c′ is a ceiling no lower
-  module _ (c′ : ℕ) (x′ : List ℕ) (a′ : Answer) (q : leaving x′ a′ ≡ decoding n s r c′ w out) (up : c ≤ c′) (limit : c′ ≤ largestCeiling) where
+  module _ (c′ : ℕ) (x′ : List ℕ) (a′ : Answer) (q : reply x′ a′ ≡ decoding n s r c′ w out) (up : c ≤ c′) (limit : c′ ≤ largestCeiling) where
     pub ceiling-lowered : ((a ≡ a′) × (x ≡ x′)) ⊎ ((a ≡ TooMany (unknowns n (rules n s) w)) × (x ≡ out) × (c < unknowns n (rules n s) w))
     ceiling-lowered =
         ⊎-elim

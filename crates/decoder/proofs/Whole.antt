@@ -81,7 +81,7 @@ module _ (n : ℕ) (s : List ℕ) (r c : ℕ) (p out out′ y z : List ℕ) (a b
   abbrev word : List ℕ
   word = map bit (polar n (encoded ks r bits))
 
-  fine : refuses (encodeRefusals n s r p out) ≡ false
+  fine : refuses (encodeRefusals n s r p (length out)) ≡ false
   fine = encoded-none n s r p out (ap (λ (t : Reply). isDone (t .answer)) (sym e) ∙ ap isDone d)
 
   pub encode-decode : (b ≡ Unique 0 (equations n ks r word)) × (z ≡ (word ++ word ++ word) ++ drop (length (word ++ word ++ word)) out′)

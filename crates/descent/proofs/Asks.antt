@@ -14,7 +14,7 @@ use Rattle.meaning.specs.Limits.{recordBytes, maskBytes}
 use Rattle.meaning.specs.Sheet.{ruleAt}
 use Rattle.bits.proofs.Parts.{half-of, from, from-length}
 use Rattle.model.specs.Model.{Walk, joinOut, nextAt, eqsAt, outAt}
-use Rattle.ruling.specs.Values.{rowValues}
+use Rattle.model.specs.RowValues.{rowValues}
 use Rattle.descent.specs.Block.{slotOf, walkOf, outOf, decoded, Parted, Settled, Joined}
 use Rattle.descent.proofs.Leaves.{leaf-is}
 use Rattle.descent.proofs.Halves.{left-next, left-eqs, both-is, whole-done}

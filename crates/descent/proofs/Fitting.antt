@@ -14,8 +14,8 @@ use mir.Syntax.{w64}
 use borrow.Author.Tests.{ltb-true, leb-true, eqb-true, lt-ltb, le-ltb, le-leb, lt-leb, eq-eqb, ne-eqb, not-true}
 use Rattle.bits.proofs.Tests.{and-l, and-r}
 use Rattle.meaning.specs.Limits.{largestN}
-use Rattle.counting.specs.Counting.{shaped}
-use Rattle.counting.proofs.Lengths.{shaped-true}
+use Rattle.sheet.specs.Shapes.{shaped}
+use Rattle.sheet.proofs.Shapes.{shaped-true}
 use Rattle.descent.specs.Descending.{widest, roomy, filled, fitting, Ready}
 
 pub whole-fits : (n size w : ℕ) → n ≤ largestN → w ≤ widest → size ≡ 2 ^ n → Fits w64 (size * w)
@@ -48,7 +48,7 @@ module _ (n w v u e size : ℕ) (es : size ≡ 2 ^ n) where
   unfolding filled
   filled-us p q = rw (← es, eq-eqb v (size * w) p, ne-eqb u (size * w) q)
 
-  pub filled-eqs : v ≡ size * w → u ≡ size * w → filled n w v u e ≡ eqb e (size * w)
+  pub filled-eqs : v ≡ size * w → u ≡ size * w → filled n w v u e ≡ leb (size * w) e
   unfolding filled
   filled-eqs p q = rw (← es, eq-eqb v (size * w) p, eq-eqb u (size * w) q)
 
@@ -89,7 +89,7 @@ fitting-true n s d most c w v u e h =
         constant = y;
         rows-v = eqb-true v (2 ^ n * w) (and-l _ _ f);
         rows-u = eqb-true u (2 ^ n * w) (and-l _ _ g);
-        rows-e = eqb-true e (2 ^ n * w) (and-r (eqb u (2 ^ n * w)) _ g);
+        rows-e = leb-true (2 ^ n * w) e (and-r (eqb u (2 ^ n * w)) _ g);
       },
       z,
     )

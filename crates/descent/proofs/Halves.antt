@@ -18,7 +18,7 @@ use Rattle.meaning.specs.Sheet.{Rule, ruleAt}
 use Rattle.model.specs.Model.{Values, Walk, Out, sums, leftSym, rightSym, leftSyms, rightSyms, joinOut, decode}
 use Rattle.model.proofs.Relate.{decode-grows}
 use Rattle.model.proofs.Steps.{decode-halves, decode-behind}
-use Rattle.ruling.specs.Values.{rowValues}
+use Rattle.model.specs.RowValues.{rowValues}
 use Rattle.descent.specs.Block.{slotOf, due, symAt, syms, outOf, decoded, Parted, Settled, Joined}
 
 -- ---- the model on lists by place

@@ -13,11 +13,13 @@ use lib.ListN.{length, getD, length-append}
 use lib.Seq.{paste, take-all}
 use Rattle.bits.specs.Rows.{Row, _⊻_, part, row, rows, added, copied}
 use Rattle.bits.proofs.Tests.{length-tab}
-use Rattle.bits.proofs.RowLaws.{length-⊻, ⊻-comm, paste-part, paste-again, paste-all, length-written, row-zero, rows-put, added-fits, copied-fits}
+use Rattle.bits.proofs.RowLaws.{row-zero}
+use Rattle.bits.proofs.RowXor.{length-⊻, ⊻-comm}
+use Rattle.bits.proofs.RowsWritten.{paste-part, paste-again, paste-all, length-written, rows-put, added-fits, copied-fits}
 use Rattle.meaning.specs.Sheet.{Rule, free, frozen, ruleAt}
 use Rattle.model.specs.Model.{Walk, ruleValue, valueAt, nextAt, eqsAt, outAt, decode}
 use Rattle.model.proofs.Steps.{decode-one}
-use Rattle.ruling.specs.Values.{unknownRow, rowValues}
+use Rattle.model.specs.RowValues.{unknownRow, rowValues}
 use Rattle.descent.specs.Block.{slotOf, symAt, syms, walkOf, outOf, decoded}
 
 slot-erased : (mark : ℕ) (v : List ℕ) → mark ≡ 0 → slotOf mark v ≡ none

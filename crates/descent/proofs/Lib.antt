@@ -2,8 +2,7 @@ pub mod Slots
 pub mod Leaves
 pub mod Halves
 pub mod Asks
-pub mod Placing
+pub mod Marking
 pub mod Fitting
 pub mod Running
 pub mod Promise
-pub mod Placed

@@ -15,9 +15,11 @@ use lib.Seq.{paste, getD-set-same, getD-set-other, getD-take, ext-getD}
 use lib.Bits.{bitXor}
 use Rattle.bits.specs.Rows.{Row, _⊻_, part, row, copiedWithin, addedWithin}
 use Rattle.bits.proofs.Tests.{eq-or-ne}
-use Rattle.bits.proofs.RowLaws.{length-⊻, getD-⊻, length-part, getD-part, length-written, paste-part, paste-apart, row-fit, length-row, row-room, row-same, row-other, rows-apart, copiedWithin-fits, addedWithin-fits}
+use Rattle.bits.proofs.RowLaws.{length-part, getD-part, row-fit, length-row, row-room, rows-apart}
+use Rattle.bits.proofs.RowXor.{length-⊻, getD-⊻}
+use Rattle.bits.proofs.RowsWritten.{length-written, paste-part, paste-apart, row-same, row-other, copiedWithin-fits, addedWithin-fits}
 use Rattle.model.specs.Model.{leftSym, rightSym}
-use Rattle.ruling.specs.Values.{rowValues}
+use Rattle.model.specs.RowValues.{rowValues}
 use Rattle.descent.specs.Block.{slotOf, due, symAt, Paired, PartOne, Parted, SettleOne, Settled, Joined}
 
 -- ---- rows of a block of n slots, copied or added

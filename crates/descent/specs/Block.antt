@@ -3,7 +3,7 @@
 --     due                   a right slot once the left half is known. Mark 1: known; above: the left half's row is to be added
 --     walkOf, outOf         the slices as the model's states
 --     decoded               the model at a block
---     Paired, .., Prepared  the steps, slot by slot: v and m before, v′ and m′ after
+--     Paired, .., Marked    the steps, slot by slot: v and m before, v′ and m′ after
 use mathlib.Core.Path.{_≡_}
 use Prim.Native.Nat.{ℕ, zero, suc, _+_, _<_}
 use mathlib.Core.List.{List}
@@ -12,8 +12,8 @@ use lib.ListN.{length, getD}
 use Rattle.bits.specs.Vectors.{tab}
 use Rattle.bits.specs.Rows.{Row, _⊻_, row, rows}
 use Rattle.meaning.specs.Sheet.{ruleAt}
-use Rattle.model.specs.Model.{Walk, Out, leftSym, rightSym, decode, symbol}
-use Rattle.ruling.specs.Values.{rowValues}
+use Rattle.model.specs.Model.{Walk, Out, leftSym, rightSym, decode}
+use Rattle.model.specs.RowValues.{rowValues}
 
 abbrev pub slotOf : ℕ → Row → Option Row
 slotOf zero x = none
@@ -80,22 +80,6 @@ markOf zero = 1
 markOf (suc zero) = 1
 markOf (suc (suc s)) = 0
 
--- a symbol whose row, where it is known, is at hand
-abbrev pub held : ℕ → Row → Option Row
-held zero x = some x
-held (suc zero) x = some x
-held (suc (suc s)) x = none
-
 -- slot j, for each j below k, has the mark of symbol j of the word
 pub record Marked (k : ℕ) (word m : List ℕ) : Type 0 where
   pub slot : (j : ℕ) → j < k → getD m j 0 ≡ markOf (getD word j 2)
-
--- slot j holds the symbol s
-pub record PlaceOne (c w j s : ℕ) (v m v′ m′ : List ℕ) : Type 0 where
-  pub slot : symAt w m′ v′ j ≡ symbol (rowValues c w) s
-  pub others : (i : ℕ) → (i ≡ j → ⊥) → symAt w m′ v′ i ≡ symAt w m v i
-
--- slot j holds symbol j of the word
-pub record Prepared (c w : ℕ) (word v m : List ℕ) : Type 0 where
-  pub size : length m ≡ length word
-  pub slot : (j : ℕ) → j < length word → symAt w m v j ≡ symbol (rowValues c w) (getD word j 2)

@@ -1,25 +1,23 @@
--- What `descend` promises. A sheet of N = 2 ^ n records, a word of N symbols, rows of w words (`ruling`'s Values), and three lists of N rows each.
+-- What `descend` promises. A sheet of N = 2 ^ n records, a word of N symbols, rows of w words (`model`'s RowValues), and room for
+-- rows.
 --     widest               the most words of a row
 --     fitting              whether all that is handed over fits together
 --     Outcome, descended   an answer, and what the three lists hold
 --     descending           the answer and the lists after the call
---     descendingRows       the same of known symbols whose rows are placed
 use mathlib.Core.Path.{_≡_}
 use Prim.Native.Nat.{ℕ, _-_, _*_, _^_, _≤_, _<_}
 use mathlib.Core.Bool.{Bool, _&&_}
 use mathlib.Core.List.{List, _++_, flatten}
-use mathlib.Core.Option.{Option}
-use lib.ListN.{length, getD, replicate}
+use lib.ListN.{length, replicate}
 use lib.Dec.{eqb, leb, ltb}
-use Rattle.bits.specs.Vectors.{pick, tab}
+use Rattle.bits.specs.Vectors.{pick}
 use Rattle.bits.specs.Rows.{Row, row}
 use Rattle.meaning.specs.Limits.{largestN, recordBytes}
 use Rattle.meaning.specs.Sheet.{ruleAt, rules}
 use Rattle.meaning.specs.Open.{unknowns}
-use Rattle.counting.specs.Counting.{shaped}
-use Rattle.model.specs.Model.{Out, start, decode, run}
-use Rattle.ruling.specs.Values.{rowValues}
-use Rattle.descent.specs.Block.{held}
+use Rattle.sheet.specs.Shapes.{shaped}
+use Rattle.model.specs.Model.{Out}
+use Rattle.model.specs.RowValues.{rowsOut}
 use Rattle.descent.specs.declared.Descent.{Descent}
 use Rattle.descent.specs.declared.Descent.the-variants.{Misfit, Over, Done}
 
@@ -32,9 +30,9 @@ widest = 65536
 unfoldable pub roomy : ℕ → ℕ → ℕ → Bool
 roomy most c w = leb w widest && (ltb c w && leb most (64 * c))
 
--- each list has N rows
+-- N rows of symbols and of u, and room for as many equations
 unfoldable pub filled : ℕ → ℕ → ℕ → ℕ → ℕ → Bool
-filled n w vals us eqs = eqb vals (2 ^ n * w) && (eqb us (2 ^ n * w) && eqb eqs (2 ^ n * w))
+filled n w vals us eqs = eqb vals (2 ^ n * w) && (eqb us (2 ^ n * w) && leb (2 ^ n * w) eqs)
 
 unfoldable pub fitting : ℕ → ℕ → ℕ → ℕ → ℕ → ℕ → ℕ → ℕ → ℕ → Bool
 fitting n sheet word most c w vals us eqs = shaped n sheet word && (roomy most c w && filled n w vals us eqs)
@@ -50,38 +48,22 @@ pub record Outcome : Type 0 where
 abbrev pub descended : Descent → List ℕ → List ℕ → List ℕ → Outcome
 descended a vals us eqs = record { answer = a; vals = vals; us = us; eqs = eqs }
 
--- the model over rows
-abbrev pub found : ℕ → List ℕ → List ℕ → ℕ → ℕ → Out Row
-found n sheet word c w = run (rowValues c w) (ruleAt sheet) n word
+-- the model on known symbols whose rows are in a list
+abbrev pub found : ℕ → List ℕ → List ℕ → ℕ → ℕ → List ℕ → Out Row
+found n sheet word c w vals = rowsOut c w (ruleAt sheet) n word (row w vals)
 
--- the symbols of a word whose known ones have their rows in a list
-abbrev pub placed : ℕ → List ℕ → List ℕ → List (Option Row)
-placed w word vals = tab (length word) (λ (j : ℕ). held (getD word j 2) (row w vals j))
-
--- the model on these
-abbrev pub foundRows : ℕ → List ℕ → List ℕ → ℕ → ℕ → List ℕ → Out Row
-foundRows n sheet word c w vals = decode (rowValues c w) (ruleAt sheet) n (placed w word vals) start
-
--- its rows one after the other: of the symbols, of u, and of the equations, followed by zeros
+-- its rows one after the other: of the symbols, of u, and of the equations, followed by zeros to a length of k words
 abbrev pub written : ℕ → ℕ → ℕ → Out Row → Outcome
-written n g w o =
+written k g w o =
     let m = length (o .after .eqs) in
-    descended (Done g m) (flatten (o .block)) (flatten (o .after .us)) (flatten (o .after .eqs) ++ replicate ((2 ^ n - m) * w) 0)
+    descended (Done g m) (flatten (o .block)) (flatten (o .after .us)) (flatten (o .after .eqs) ++ replicate (k - m * w) 0)
 
 -- what does not fit, and too many unknowns, leave the lists as found
 unfoldable pub descending : ℕ → List ℕ → List ℕ → ℕ → ℕ → ℕ → List ℕ → List ℕ → List ℕ → Outcome
 descending n sheet word most c w vals us eqs =
     let g = unknowns n (rules n sheet) word in
     pick (fitting n (length sheet) (length word) most c w (length vals) (length us) (length eqs))
-    (pick (ltb most g) (descended (Over g) vals us eqs) (written n g w (found n sheet word c w)))
-    (descended Misfit vals us eqs)
-
--- the same where the known symbols have their rows in `vals`
-unfoldable pub descendingRows : ℕ → List ℕ → List ℕ → ℕ → ℕ → ℕ → List ℕ → List ℕ → List ℕ → Outcome
-descendingRows n sheet word most c w vals us eqs =
-    let g = unknowns n (rules n sheet) word in
-    pick (fitting n (length sheet) (length word) most c w (length vals) (length us) (length eqs))
-    (pick (ltb most g) (descended (Over g) vals us eqs) (written n g w (foundRows n sheet word c w vals)))
+    (pick (ltb most g) (descended (Over g) vals us eqs) (written (length eqs) g w (found n sheet word c w vals)))
     (descended Misfit vals us eqs)
 
 -- ---- the descent alone, of what fits together
@@ -94,11 +76,11 @@ pub record Ready (n sheet word c w vals us eqs : ℕ) : Type 0 where
   pub constant : c < w
   pub rows-v : vals ≡ 2 ^ n * w
   pub rows-u : us ≡ 2 ^ n * w
-  pub rows-e : eqs ≡ 2 ^ n * w
+  pub rows-e : 2 ^ n * w ≤ eqs
 
--- the lists hold what the model found, and m is the number of its equations
-pub record Filled (n w : ℕ) (o : Out Row) (v u e : List ℕ) (m : ℕ) : Type 0 where
+-- the lists hold what the model found, the last k words, and m is the number of its equations
+pub record Filled (k w : ℕ) (o : Out Row) (v u e : List ℕ) (m : ℕ) : Type 0 where
   pub vals : v ≡ flatten (o .block)
   pub us : u ≡ flatten (o .after .us)
-  pub eqs : e ≡ flatten (o .after .eqs) ++ replicate ((2 ^ n - m) * w) 0
+  pub eqs : e ≡ flatten (o .after .eqs) ++ replicate (k - m * w) 0
   pub many : m ≡ length (o .after .eqs)

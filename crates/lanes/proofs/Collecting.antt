@@ -1,7 +1,6 @@
 -- The lanes in which rows with no coefficient have the constant 1.
 --     AddedUpTo, add-none, add-next, add-all      the lanes of one row, 64 at a time
 --     bare-led, bare-added                        one row, with a coefficient and without
---     zero-at                                     a list of zeros
 --     CollectedUpTo, collect-none, -next, -all    the lanes of all rows
 --     NoneUpTo, none-.., Sought, seek-..          the two searches
 --     place-below                                 the first place, by tests that are equal
@@ -18,15 +17,14 @@ use lib.Seq.{getD-set-same, getD-set-other}
 use lib.Bits.{bitOr}
 use lib.Dec.{eqb}
 use borrow.Author.Tests.{eq-eqb, ne-eqb, eqb-true}
+use Rattle.bits.proofs.RowXor.{getD-nought}
 use Rattle.bits.specs.Vectors.{pick, all, tab, firstPlace}
 use Rattle.bits.specs.Words.{hasBit}
-use Rattle.bits.specs.Rows.{Row, row}
+use Rattle.bits.specs.Rows.{Row, row, rowsOf}
 use Rattle.bits.specs.Rows as bits
-use Rattle.bits.proofs.Tests.{length-tab, tab-at, tab-snoc, not-both, place-found, place-next, place-end, place-le, place-passes, all-fails, all-next, all-end, all-at, le-or-lt}
+use Rattle.bits.proofs.Tests.{length-tab, tab-at, tab-snoc, not-both, place-found, place-next, place-end, place-le, place-passes, all-fails, all-next, all-end, all-at, le-or-lt, and-true}
 use Rattle.bits.proofs.WordBits.{hasBit-or, zero-bit}
-use Rattle.gf2.specs.Rows.{rowsOf}
 use Rattle.gf2.specs.System.{led, consistent}
-use Rattle.reading.proofs.Cutting.{rows-agree}
 use Rattle.lanes.specs.Lanes.{upTo, laneConstant, firstUnsound}
 use Rattle.lanes.specs.Inner.{LaneWord, laneIn, Added, AddedBare, Collected, noneIn, firstIn}
 
@@ -83,20 +81,11 @@ pub record CollectedUpTo (c w : ℕ) (l b : List ℕ) (m i : ℕ) : Type 0 where
   pub some : i ≤ m
   pub lane : (t : ℕ) → t < 512 → laneIn b t ≡ not (consistent c (laneConstant c t) (bits.rows w i l))
 
-pub zero-at : (n k : ℕ) → _≡_ {A = ℕ} (getD (replicate n 0) k 0) 0
-zero-at zero k = refl
-zero-at (suc n) zero = refl
-zero-at (suc n) (suc k) = zero-at n k
-
 pub collect-none : (c w : ℕ) (l b : List ℕ) (m : ℕ) → b ≡ replicate 8 0 → CollectedUpTo c w l b m 0
-collect-none c w l b m e = record { some = omega arith; lane = λ t h. ap (λ (z : ℕ). hasBit z (t % 64)) (ap (λ (d : List ℕ). getD d (t / 64) 0) e ∙ zero-at 8 (t / 64)) ∙ zero-bit (t % 64) }
+collect-none c w l b m e = record { some = omega arith; lane = λ t h. ap (λ (z : ℕ). hasBit z (t % 64)) (ap (λ (d : List ℕ). getD d (t / 64) 0) e ∙ getD-nought 8 (t / 64)) ∙ zero-bit (t % 64) }
 
 all-snoc : {A : Type 0} (p : A → Bool) (l : List A) (a : A) → all p (l ++ (a ∷ [])) ≡ all p l && p a
-all-snoc p [] a = go (p a)
-  where
-    go : (b : Bool) → b && true ≡ b
-    go true = refl
-    go false = refl
+all-snoc p [] a = and-true (p a)
 all-snoc p (x ∷ l) a = ap (λ (b : Bool). p x && b) (all-snoc p l a) ∙ go (p x) (all p l) (p a)
   where
     go : (x y z : Bool) → x && (y && z) ≡ x && y && z
@@ -124,7 +113,7 @@ collect-all {c} {w} {l} {b} {m} {i} u h e = record {
   lane = λ t q.
       let s = u .some in
       let k : i ≡ length l / w = omega arith in
-      u .lane t q ∙ ap (λ (r : List Row). not (consistent c (laneConstant c t) r)) (ap (λ (n : ℕ). bits.rows w n l) k ∙ sym (rows-agree w (length l / w) l));
+      u .lane t q ∙ ap (λ (r : List Row). not (consistent c (laneConstant c t) r)) (ap (λ (n : ℕ). bits.rows w n l) k);
 }
 
 -- ---- whether there is none

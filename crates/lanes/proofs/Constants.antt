@@ -10,9 +10,8 @@ use lib.ListN.{getD}
 use lib.Bits.{bitXor}
 use Rattle.bits.specs.Vectors.{_⊕_, bit, pick}
 use Rattle.bits.specs.Words.{hasBit, full}
-use Rattle.bits.specs.Rows.{Row}
+use Rattle.bits.specs.Rows.{Row, hasAt, has}
 use Rattle.bits.proofs.WordBits.{hasBit-xor, bit-has, zero-bit, full-bit}
-use Rattle.gf2.specs.Rows.{hasAt, has}
 use Rattle.lanes.specs.Lanes.{laneConstant}
 use Rattle.lanes.specs.Inner.{commonWord, LaneWord}
 

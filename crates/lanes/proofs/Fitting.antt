@@ -12,12 +12,12 @@ use lib.ListN.{length}
 use lib.Dec.{eqb, leb}
 use borrow.Author.Tests.{le-leb, lt-leb, eq-eqb, ne-eqb, leb-true, leb-false, eqb-true}
 use Rattle.bits.proofs.Tests.{and-i, and-l, and-r}
-use Rattle.gf2.specs.Rows.{rowsOf}
+use Rattle.bits.specs.Rows.{rowsOf}
 use Rattle.gf2.specs.Solve.{sys}
-use Rattle.gf2.proofs.Cut.{whole-rows}
+use Rattle.bits.proofs.RowLaws.{whole-rows}
 use Rattle.meaning.specs.Answers.{Reply, leaving}
 use Rattle.meaning.specs.declared.Answer.the-variants.{BadShape}
-use Rattle.reading.proofs.Fitting.{nothing-over}
+use Rattle.verdict.proofs.Fitting.{nothing-over}
 use Rattle.lanes.specs.Lanes.{rowReply, fits, concluding}
 
 -- the facts of `read`

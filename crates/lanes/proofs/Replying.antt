@@ -10,14 +10,12 @@ use lib.ListN.{length, drop, length-append, length-map}
 use lib.Dec.{ltb}
 use borrow.Author.Tests.{lt-ltb, le-ltb, eq-eqb, ne-eqb}
 use Rattle.bits.specs.Vectors.{tab}
-use Rattle.bits.specs.Rows.{Row, row, Wide}
+use Rattle.bits.specs.Rows.{Row, row, Wide, rowsOf}
 use Rattle.bits.proofs.Tests.{length-tab}
 use Rattle.bits.proofs.RowLaws.{length-flatten}
-use Rattle.gf2.specs.Rows.{rowsOf}
 use Rattle.gf2.specs.Solve.{Sys, sys}
 use Rattle.meaning.specs.Answers.{leaving}
 use Rattle.meaning.specs.declared.Answer.the-variants.{Unique, Ambiguous, LaneInconsistent}
-use Rattle.reading.proofs.Cutting.{rows-agree}
 use Rattle.lanes.specs.Lanes.{firstUnsound, rowRecord, rowMark, rowRepaired, rowReply}
 use Rattle.lanes.proofs.Spelling.{record-long}
 
@@ -41,7 +39,7 @@ module _ (c w : ℕ) (eqs vals : List ℕ) (g m rank : ℕ) (out : List ℕ) whe
 
   module _ (t : ℕ) (e : t ≡ firstUnsound c (rowsOf w eqs)) (h : 512 ≤ t) (out′ : List ℕ) (z : out′ ≡ rowRepaired c (rowsOf w vals) ++ drop (65 * (length vals / w)) out) where
     long : length (rowsOf w vals) ≡ length vals / w
-    long = ap length (rows-agree w (length vals / w) vals) ∙ length-tab (length vals / w) (row w vals)
+    long = length-tab (length vals / w) (row w vals)
 
     whole : out′ ≡ rowRepaired c (rowsOf w vals) ++ drop (length (rowRepaired c (rowsOf w vals))) out
     whole = z ∙ ap (λ (k : ℕ). rowRepaired c (rowsOf w vals) ++ drop k out) (sym (repaired-long c (rowsOf w vals) ∙ ap (λ (k : ℕ). 65 * k) long))

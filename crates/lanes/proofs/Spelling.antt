@@ -18,15 +18,14 @@ use lib.Pow.{pow-add}
 use borrow.Rule.Slice.PartMut.{putMid}
 use Rattle.bits.specs.Vectors.{bit, pick, tab}
 use Rattle.bits.specs.Words.{bitAt, hasBit}
-use Rattle.bits.specs.Rows.{Row, row}
+use Rattle.bits.specs.Rows.{Row, row, rowsOf}
 use Rattle.bits.proofs.Tests.{length-tab, tab-getD, le-or-lt}
 use Rattle.bits.proofs.WordBits.{bit-has, bit-suc, shr-bit, low-bit}
-use Rattle.bits.proofs.RowLaws.{put-behind, length-flatten}
+use Rattle.bits.proofs.RowLaws.{length-flatten}
+use Rattle.bits.proofs.RowsWritten.{put-behind}
 use Rattle.bits.proofs.Records.{wide-tab}
-use Rattle.gf2.specs.Rows.{rowsOf}
 use Rattle.gf2.specs.System.{led}
-use Rattle.reading.proofs.Cutting.{rows-agree}
-use Rattle.reading.proofs.Assembling.{map-tab}
+use Rattle.verdict.proofs.Assembling.{map-tab}
 use Rattle.lanes.specs.Lanes.{packed, laneConstant, rowByte, rowRecord, rowMark, rowRepaired}
 use Rattle.lanes.specs.Inner.{LaneWord, PutEight, recordRows, markRows}
 
@@ -150,7 +149,7 @@ module _ (c w : ℕ) (vals : List ℕ) where
   N = length vals / w
 
   by-rows : {A : Type 0} (f : Row → A) → tab N (λ (j : ℕ). f (row w vals j)) ≡ map f (rowsOf w vals)
-  by-rows f = sym (ap (map f) (rows-agree w N vals) ∙ map-tab f N (row w vals))
+  by-rows f = sym (map-tab f N (row w vals))
 
   pub records-long : (n : ℕ) → length (recordRows c w vals n) ≡ n * 64
   unfolding recordRows

@@ -13,8 +13,7 @@ use lib.ListN.{getD}
 use lib.Dec.{eqb}
 use Rattle.bits.specs.Vectors.{pick, all, tab, firstPlace}
 use Rattle.bits.specs.Words.{hasBit, full}
-use Rattle.bits.specs.Rows.{Row, row}
-use Rattle.gf2.specs.Rows.{has}
+use Rattle.bits.specs.Rows.{Row, row, has}
 use Rattle.gf2.specs.System.{led, consistent}
 use Rattle.lanes.specs.Lanes.{upTo, laneConstant, rowRecord, rowMark}
 

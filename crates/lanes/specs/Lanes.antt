@@ -15,8 +15,7 @@ use mathlib.Core.List.{List, _++_, map, flatten}
 use lib.ListN.{length, replicate}
 use lib.Dec.{eqb, leb, ltb}
 use Rattle.bits.specs.Vectors.{_⊕_, bit, pick, tab, firstPlace}
-use Rattle.bits.specs.Rows.{Row}
-use Rattle.gf2.specs.Rows.{has, rowsOf}
+use Rattle.bits.specs.Rows.{Row, has, rowsOf}
 use Rattle.gf2.specs.Solve.{Sys, sys}
 use Rattle.gf2.specs.System.{led, consistent}
 use Rattle.meaning.specs.Answers.{Reply, leaving, writing}

@@ -2,7 +2,7 @@
 ghost use mathlib.Core.Path.{_≡_};
 ghost use Prim.Native.Nat.{_+_, _*_, _/_, _≤_};
 ghost use lib.ListN.{length, replicate};
-ghost use Rattle.gf2.specs.Rows.{rowsOf};
+ghost use Rattle.bits.specs.Rows.{rowsOf};
 ghost use Rattle.lanes.specs.Lanes.{firstUnsound};
 ghost use Rattle.lanes.specs.Inner.{Added, AddedBare, Collected, noneIn, firstIn};
 use crate::row;

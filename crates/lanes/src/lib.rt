@@ -4,9 +4,9 @@
 ghost use mathlib.Core.Path.{_≡_};
 ghost use Prim.Native.Nat.{_+_, _*_, _/_, _≤_};
 ghost use lib.ListN.{length};
-ghost use Rattle.gf2.specs.Rows.{rowsOf};
+ghost use Rattle.bits.specs.Rows.{rowsOf};
 ghost use Rattle.gf2.specs.Solve.{sys};
-ghost use Rattle.meaning.specs.Answers.{leaving};
+ghost use Rattle.meaning.specs.Answers.{reply};
 ghost use Rattle.lanes.specs.Lanes.{rowReply, fits, concluding};
 
 mod bad;
@@ -50,7 +50,7 @@ fn read(
 ) -> Answer
     requires { ⌜ (c + 9 ≤ w) × (length (now vals) ≡ length (now vals) / w * w) × (65 * (length (now vals) / w) ≤ length (now out)) ⌝ }
     requires { ⌜ (rank ≤ g) × (length (now eqs) ≡ length (now eqs) / w * w) ⌝ }
-    ensures { λ a. ⌜ leaving (now (out .exit)) a ≡ rowReply c g m (sys (rowsOf w (now (eqs .entry))) (rowsOf w (now (vals .entry))) rank) (now (out .entry)) ⌝ }
+    ensures { λ a. ⌜ reply (now (out .exit)) a ≡ rowReply c g m (sys (rowsOf w (now (eqs .entry))) (rowsOf w (now (vals .entry))) rank) (now (out .entry)) ⌝ }
 {
     let lane = bad::first(eqs, c, w);
     if lane < 512 {
@@ -82,7 +82,7 @@ pub fn conclude(
     vals: &[u64],
     out: &mut [u8],
 ) -> Answer
-    ensures { λ a. ⌜ leaving (now (out .exit)) a ≡ concluding c w g m rank (now (eqs .entry)) (now (vals .entry)) (now (out .entry)) ⌝ }
+    ensures { λ a. ⌜ reply (now (out .exit)) a ≡ concluding c w g m rank (now (eqs .entry)) (now (vals .entry)) (now (out .entry)) ⌝ }
 {
     if !fits(c, w, g, rank, eqs.len(), vals.len(), out.len()) {
         return Answer::BadShape;

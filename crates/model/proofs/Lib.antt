@@ -8,6 +8,7 @@
 --     Listed     lists of vectors in their order
 --     Exact      the candidates are the model's codewords at the solutions
 --     Steps      what a proof of code cites: the cases of the recursion, and its counts
+--     RowValues  the same of rows, from symbols that have rows
 pub mod Relate
 pub mod Halves
 pub mod Leaf
@@ -17,3 +18,4 @@ pub mod Decoded
 pub mod Listed
 pub mod Exact
 pub mod Steps
+pub mod RowValues

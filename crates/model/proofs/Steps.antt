@@ -1,32 +1,32 @@
 -- What a proof of code cites of `decode`, for any values.
 --     decode-one, decode-halves         its two cases
 --     decode-behind                     the equations so far are only passed on: a solver can be fed each one as it comes
+--     decode-most                       a block of 2 ^ n symbols has at most so many equations
+--     length-checks                     the check has r equations
 --     counted                           how long its lists get, and how many unknowns and equations a block adds
---     run-unknowns, system-equations    of a whole word, these are 01's g and m
 use mathlib.Core.Path.{_≡_, refl, sym, ap, ap₂, _∙_}
-use Prim.Native.Nat.{ℕ, zero, suc, _+_, _^_}
+use Prim.Native.Nat.{ℕ, zero, suc, _+_, _^_, _≤_}
 use native.Mathlib.Omega.{arith}
-use native.Mathlib.Nat.{zero-add}
+use native.Mathlib.Nat.{pow-suc}
 use mathlib.Core.Bool.{Bool, true, false}
 use mathlib.Core.List.{List, [], _∷_, _++_, map, append-nil, append-assoc}
 use mathlib.Core.Option.{Option, none, some}
 use lib.ListN.{length, take, drop, replicate, length-append, length-map, length-replicate}
 use lib.Seq.{take-at, drop-at}
-use Rattle.bits.specs.Vectors.{tab, ones}
+use Rattle.bits.specs.Vectors.{ones}
 use Rattle.meaning.specs.Limits.{leads}
-use Rattle.meaning.specs.Sheet.{Rule}
+use Rattle.meaning.specs.Sheet.{Rule, free, frozen}
 use Rattle.meaning.specs.Check.{freeBits, poly}
-use Rattle.meaning.specs.Open.{opens, openFree, closedFrozen, openAll, unknowns, equations}
+use Rattle.meaning.specs.Open.{opens, openFree, closedFrozen}
 use Rattle.meaning.proofs.Polar.{length-polar}
 use Rattle.meaning.proofs.Remainder.{length-rest, length-poly}
-use Rattle.model.specs.Model.{Values, Walk, Out, start, leftSyms, rightSyms, outAt, joinOut, decode, checks, symbol, run, system}
+use Rattle.model.specs.Model.{Values, Walk, Out, leftSyms, rightSyms, eqsAt, outAt, joinOut, decode, checks}
 use Rattle.model.specs.Related.{Along, nil, cons, Sym, gone, known, Bound, BoundOut}
 use Rattle.model.specs.AtBits.{bits}
 use Rattle.model.specs.Counted.{rulesFrom, lost, Counted, behind}
 use Rattle.model.proofs.Relate.{along-length, decode-bound, checks-bound}
-use Rattle.model.proofs.Halves.{opens-symbols}
 use Rattle.model.proofs.Leaf.{leaf, lost-leaf}
-use Rattle.model.proofs.AtBits.{rules-start, checks-bits, walk, walk-us, Found, found}
+use Rattle.model.proofs.AtBits.{checks-bits, walk, walk-us, Found, found}
 use Rattle.model.proofs.Walked.{walk-next, walk-many}
 
 -- ---- the cases of `decode`, and the equations so far
@@ -70,6 +70,22 @@ module _ {A : Type 0} (𝓥 : Values A) (rule : ℕ → Rule) where
       let b = drop (2 ^ n) w in
       let l : List A → Out A = λ es. decode 𝓥 rule n (leftSyms 𝓥 a b) (record { us = us; next = k; eqs = es }) in
       second n (decode-behind n) a b es (l es) (l []) (decode-behind n (leftSyms 𝓥 a b) us k es)
+
+-- a block of 2 ^ n symbols has at most so many equations
+pub decode-most : {A : Type 0} (𝓥 : Values A) (rule : ℕ → Rule) (n : ℕ) (w : List (Option A)) (s : Walk A) → length ((decode 𝓥 rule n w s) .after .eqs) ≤ length (s .eqs) + 2 ^ n
+unfolding decode
+decode-most 𝓥 rule zero [] s = omega arith
+decode-most {A = A} 𝓥 rule zero (x ∷ w) s = omega (arith, length-append (s .eqs) (eqsAt 𝓥 (rule (length (s .us))) x (s .us)), one (rule (length (s .us))) x)
+  where
+    one : (k : Rule) (x : Option A) → length (eqsAt 𝓥 k x (s .us)) ≤ 1
+    one k none = omega arith
+    one free (some a) = omega arith
+    one (frozen b m) (some a) = omega arith
+decode-most 𝓥 rule (suc n) w s =
+    let a = take (2 ^ n) w in
+    let b = drop (2 ^ n) w in
+    let l = decode 𝓥 rule n (leftSyms 𝓥 a b) s in
+    omega (arith, decode-most 𝓥 rule n (leftSyms 𝓥 a b) s, decode-most 𝓥 rule n (rightSyms 𝓥 a b (l .block)) (l .after), pow-suc 2 n)
 
 -- ---- counts: any values are bound to bits by the relation that always holds
 
@@ -135,27 +151,10 @@ module _ {A : Type 0} (𝓥 : Values A) (rule : ℕ → Rule) where
       let (v, f) = found unset rule n w′ (length-map w shade ∙ lw) s′ in
       tally n w lw s (decode 𝓥 rule n w s) s′ (decode (bits unset) rule n w′ s′) (length-replicate (length (s .us)) false) (length-replicate (length (s .eqs)) false) refl b v f
 
-  -- ---- of a whole word
+  -- ---- the check
 
-  length-checks : (r : ℕ) (ks : List Rule) (us : List A) → length (checks 𝓥 r ks us) ≡ r
+  pub length-checks : (r : ℕ) (ks : List Rule) (us : List A) → length (checks 𝓥 r ks us) ≡ r
   length-checks r ks us =
       let u = replicate (length us) false in
       along-length (checks-bound 0 𝓥 (bits unset) (any-bound 0 𝓥 unset) r ks (any-along us)) ∙ ap length (checks-bits unset r ks u)
       ∙ length-rest (poly r) (replicate r false) (leads r ++ freeBits ks u) (length-replicate r false ∙ sym (length-poly r)) ∙ length-poly r
-
-  module _ (n : ℕ) (w : List ℕ) (lw : length w ≡ 2 ^ n) where
-    run-counted : Counted rule n (map (symbol 𝓥) w) start (run 𝓥 rule n w)
-    unfolding run
-    run-counted = counted n (map (symbol 𝓥) w) (length-map w (symbol 𝓥) ∙ lw) start
-
-    pub run-unknowns : (run 𝓥 rule n w) .after .next ≡ unknowns n (tab (2 ^ n) rule) w
-    unfolding unknowns
-    run-unknowns = run-counted .next ∙ zero-add _ ∙ ap₂ (λ (l : List Rule) (f : List Bool). ones (openFree l f)) (rules-start rule (2 ^ n)) (opens-symbols 𝓥 n w lw)
-
-    pub system-equations : (r : ℕ) → length (system 𝓥 rule n r w) ≡ equations n (tab (2 ^ n) rule) r w
-    unfolding system equations
-    system-equations r =
-        let o = run 𝓥 rule n w in
-        let m : length (o .after .eqs) ≡ ones (closedFrozen (tab (2 ^ n) rule) (openAll n w)) =
-        run-counted .eqs ∙ zero-add _ ∙ ap₂ (λ (l : List Rule) (f : List Bool). ones (closedFrozen l f)) (rules-start rule (2 ^ n)) (opens-symbols 𝓥 n w lw) in
-        length-append (o .after .eqs) (checks 𝓥 r (tab (2 ^ n) rule) (o .after .us)) ∙ ap₂ _+_ m (length-checks r (tab (2 ^ n) rule) (o .after .us))

@@ -22,18 +22,18 @@ use Rattle.meaning.specs.Limits.{largestN, maskBytes, recordBytes, largestCeili
 use Rattle.meaning.specs.Sheet.{Rule, rules}
 use Rattle.meaning.specs.Codewords.{erased, candidates}
 use Rattle.meaning.specs.Open.{isOpen, openAll, openFree, closedFrozen, unknowns, equations}
-use Rattle.meaning.specs.Answers.{Refusal, _⇒_, firstOf, isDone, checking, wording, refuses, sheetRefusals, wordRefusals, formRefusals, Reply, leaving, verdict, decoding}
+use Rattle.meaning.specs.Answers.{Refusal, _⇒_, firstOf, fault, isDone, checking, wording, refuses, sheetRefusals, wordRefusals, formRefusals, Reply, leaving, verdict, decoding}
 use Rattle.meaning.specs.declared.Answer.{Answer}
 use Rattle.meaning.specs.declared.Answer.the-variants.{Done, BadLength, BadCeiling, TooMany}
 use Rattle.meaning.proofs.Refusals.{tried-done, tried-refused, past-none, none-append}
 use Rattle.meaning.proofs.Forms.{good, checked-none, worded, worded-none}
 use Rattle.meaning.proofs.Demands.{under}
-use Rattle.form.proofs.Records.{records-in}
-use Rattle.counting.proofs.Lengths.{positions}
+use Rattle.sheet.proofs.Records.{records-in}
+use Rattle.sheet.proofs.Shapes.{size-most}
 use Rattle.decoder.proofs.Deciding.{form-none}
 use Rattle.strips.specs.Repairing.{laneBit, laneOf, repairForm, repairRefusals, laneReply, stripReply, repairing}
 use Rattle.strips.specs.Placing.{lostSym, lostWord}
-use Rattle.strips.specs.Deciding.{repairFault, laneIn, laneVerdict, repairDeciding, Formed}
+use Rattle.strips.specs.Deciding.{laneIn, laneVerdict, repairDeciding, Formed}
 
 -- ---- the fault of form
 
@@ -50,12 +50,12 @@ module _ (n : ℕ) (s : List ℕ) (r c strip : ℕ) (w : List ℕ) (room : ℕ) 
   abbrev C : List Refusal
   C = (ltb largestCeiling c ⇒ BadCeiling) ∷ []
 
-  table : repairFault n s r c strip w room ≡ firstOf (λ (x : Answer). x) (S ++ (L ++ C)) Done
-  unfolding repairFault repairForm
+  table : fault (repairForm n s r c strip w room) ≡ firstOf (λ (x : Answer). x) (S ++ (L ++ C)) Done
+  unfolding repairForm
   table = ap (λ (t : List Refusal). firstOf (λ (x : Answer). x) t Done) (append-assoc S L C)
 
   module _ (a : Answer) (ea : a ≡ checking n s r) (b : Bool) (eb : b ≡ isDone a) where
-    pub fault-sheet : b ≡ false → a ≡ repairFault n s r c strip w room
+    pub fault-sheet : b ≡ false → a ≡ fault (repairForm n s r c strip w room)
     unfolding checking
     fault-sheet t = ea ∙ sym (tried-refused (λ (x : Answer). x) S (L ++ C) Done (ap isDone (sym ea) ∙ sym eb ∙ t)) ∙ sym table
 
@@ -66,10 +66,10 @@ module _ (n : ℕ) (s : List ℕ) (r c strip : ℕ) (w : List ℕ) (room : ℕ) 
       size-is : length s / recordBytes ≡ 2 ^ n
       size-is = records-in (length s) (2 ^ n) ((good n s r sheet-none) .long)
 
-      past-sheet : repairFault n s r c strip w room ≡ pick (not (eqb strip (2 ^ n * 64))) BadLength (firstOf (λ (x : Answer). x) (W ++ C) Done)
+      past-sheet : fault (repairForm n s r c strip w room) ≡ pick (not (eqb strip (2 ^ n * 64))) BadLength (firstOf (λ (x : Answer). x) (W ++ C) Done)
       past-sheet = table ∙ past-none (λ (x : Answer). x) S (L ++ C) Done sheet-none
 
-      pub fault-strip : (strip ≡ length s / recordBytes * 64 → ⊥) → BadLength ≡ repairFault n s r c strip w room
+      pub fault-strip : (strip ≡ length s / recordBytes * 64 → ⊥) → BadLength ≡ fault (repairForm n s r c strip w room)
       fault-strip h = sym (past-sheet ∙ rw (ne-eqb strip (2 ^ n * 64) (λ z. h (z ∙ ap (λ (k : ℕ). k * 64) (sym size-is)))) refl)
 
       module _ (l : strip ≡ length s / recordBytes * 64) (v : Answer) (ev : v ≡ wording (length s / recordBytes) 1 (65 * (length s / recordBytes)) w room) (d : Bool) (ed : d ≡ isDone v) where
@@ -77,20 +77,20 @@ module _ (n : ℕ) (s : List ℕ) (r c strip : ℕ) (w : List ℕ) (room : ℕ) 
         meant : v ≡ wording (2 ^ n) 1 (65 * 2 ^ n) w room
         meant = ev ∙ ap (λ (k : ℕ). wording k 1 (65 * k) w room) size-is
 
-        past-strip : repairFault n s r c strip w room ≡ firstOf (λ (x : Answer). x) (W ++ C) Done
+        past-strip : fault (repairForm n s r c strip w room) ≡ firstOf (λ (x : Answer). x) (W ++ C) Done
         past-strip = past-sheet ∙ rw (eq-eqb strip (2 ^ n * 64) (l ∙ ap (λ (k : ℕ). k * 64) size-is)) refl
 
-        pub fault-word : d ≡ false → v ≡ repairFault n s r c strip w room
+        pub fault-word : d ≡ false → v ≡ fault (repairForm n s r c strip w room)
         unfolding wording
         fault-word q = meant ∙ sym (tried-refused (λ (x : Answer). x) W C Done (ap isDone (sym meant) ∙ sym ed ∙ q)) ∙ sym past-strip
 
-        past-word : d ≡ true → repairFault n s r c strip w room ≡ pick (ltb largestCeiling c) BadCeiling Done
+        past-word : d ≡ true → fault (repairForm n s r c strip w room) ≡ pick (ltb largestCeiling c) BadCeiling Done
         past-word q = past-strip ∙ past-none (λ (x : Answer). x) W C Done (worded-none (2 ^ n) 1 (65 * 2 ^ n) w room (ap isDone (sym meant) ∙ sym ed ∙ q))
 
-        pub fault-ceiling : d ≡ true → largestCeiling < c → BadCeiling ≡ repairFault n s r c strip w room
+        pub fault-ceiling : d ≡ true → largestCeiling < c → BadCeiling ≡ fault (repairForm n s r c strip w room)
         fault-ceiling q h = sym (past-word q ∙ rw (lt-ltb largestCeiling c h) refl)
 
-        pub fault-none : d ≡ true → c ≤ largestCeiling → Done ≡ repairFault n s r c strip w room
+        pub fault-none : d ≡ true → c ≤ largestCeiling → Done ≡ fault (repairForm n s r c strip w room)
         fault-none q h = sym (past-word q ∙ rw (le-ltb largestCeiling c h) refl)
 
 -- ---- what is lost, as a word
@@ -170,7 +170,7 @@ module _ (n : ℕ) (s : List ℕ) (r c : ℕ) (strip lost out : List ℕ) where
   m-same t = ap (λ (o : List Bool). ones (closedFrozen (rules n s) o) + r) (ap (openAll n) (lane-same strip lost t) ∙ open-same strip (lostWord lost) t n)
 
   -- no fault of form in a strip, none in its lanes
-  pub lane-formed : refuses F ≡ false → (t : ℕ) (o : List ℕ) → 3 * 2 ^ n ≤ length o → refuses (formRefusals n s r c (laneOf strip lost t) o) ≡ false
+  pub lane-formed : refuses F ≡ false → (t : ℕ) (o : List ℕ) → 3 * 2 ^ n ≤ length o → refuses (formRefusals n s r c (laneOf strip lost t) (length o)) ≡ false
   unfolding repairForm wordRefusals
   lane-formed h t o k =
       let (p, u) = none-append (S n s r c (length strip) lost (length out) ++ L n s r c (length strip) lost (length out)) _ h in
@@ -223,13 +223,13 @@ module _ (n : ℕ) (s : List ℕ) (r c : ℕ) (strip lost out : List ℕ) where
   pub form-room : refuses F ≡ false → 65 * 2 ^ n ≤ length out
   form-room h = (formed h) .room
 
-  module _ (a : Answer) (ea : a ≡ repairFault n s r c (length strip) lost (length out)) (b : Bool) (eb : b ≡ isDone a) where
+  module _ (a : Answer) (ea : a ≡ fault (repairForm n s r c (length strip) lost (length out))) (b : Bool) (eb : b ≡ isDone a) where
     pub repair-refused : b ≡ false → leaving out a ≡ repairing n s r c strip lost out
-    unfolding repairFault repairing repairRefusals
+    unfolding repairing repairRefusals
     repair-refused t = ap (leaving out) ea ∙ sym (tried-refused (leaving out) F ((ltb c G ⇒ TooMany G) ∷ []) last (ap isDone (sym ea) ∙ sym eb ∙ t))
 
     none : b ≡ true → refuses F ≡ false
-    unfolding repairFault repairForm sheetRefusals wordRefusals
+    unfolding repairForm sheetRefusals wordRefusals
     none t = tried-done F refl (ap isDone (sym ea) ∙ sym eb ∙ t)
 
     pub repair-passed : b ≡ true → Formed n s r c (length strip) (length (lostWord lost)) (length out)
@@ -240,4 +240,4 @@ module _ (n : ℕ) (s : List ℕ) (r c : ℕ) (strip lost out : List ℕ) where
 
 -- no more records than a mask can name
 pub few-records : (n : ℕ) (s : List ℕ) (r c strip : ℕ) (lost : List ℕ) (out : ℕ) → Formed n s r c strip (length (lostWord lost)) out → length lost ≤ 8 * maskBytes
-few-records n s r c strip lost out F = positions n (length lost) (F .small) (sym (length-map lost lostSym) ∙ F .symbols)
+few-records n s r c strip lost out F = size-most n (length lost) (F .small) (sym (length-map lost lostSym) ∙ F .symbols)

@@ -1,7 +1,6 @@
 -- Each lane of the rows that the model finds is the decoder's: the strip's reply, as it is read off the reduced rows, is that of its 512 lanes.
 --     lane-hom, lane-constant     the constant of a lane
 --     row-lane                    the rows of the records: what lane t reads off them
---     lane-law                    the candidates of each lane, by the rows
 --     lane-verdict                its verdict
 --     verdict-lanes               the strip's reply
 use mathlib.Core.Path.{_≡_, refl, sym, ap, ap₂, _∙_}
@@ -12,34 +11,32 @@ use mathlib.Core.List.{List, [], _++_, map, flatten, append-assoc}
 use lib.ListN.{length, getD, drop, replicate, length-map, List·getD-append}
 use lib.Dec.{eqb, ltb}
 use borrow.Author.Tests.{ltb-true, ltb-false, not-true, not-false}
-use Rattle.bits.specs.Vectors.{_⊕_, bit, pick, tab, firstPlace}
+use Rattle.bits.specs.Vectors.{_⊕_, bit, pick, tab}
 use Rattle.bits.specs.Words.{hasBit}
-use Rattle.bits.specs.Rows.{Row, row}
-use Rattle.bits.proofs.Tests.{length-tab, tab-at, tab-below, place-first, place-passes}
+use Rattle.bits.specs.Rows.{Row, row, hasAt, has, at}
+use Rattle.bits.proofs.Tests.{length-tab, tab-at, tab-below, place-first, place-passes, getD-map}
 use Rattle.bits.proofs.Xor.{⊕-swap}
 use Rattle.bits.proofs.WordBits.{bit-has, zero-bit}
 use Rattle.bits.proofs.RowLaws.{getD-part}
-use Rattle.gf2.specs.Rows.{hasAt, has, at}
-use Rattle.gf2.specs.Solve.{lead, Sys, solve}
-use Rattle.gf2.specs.System.{Hom, Within, led, dot, consistent}
-use Rattle.gf2.proofs.Rows.{has-⊻}
-use Rattle.gf2.proofs.Passes.{getD-map}
-use Rattle.gf2.proofs.Fill.{dot-none}
+use Rattle.gf2.specs.Solve.{lead, solve}
+use Rattle.gf2.specs.System.{Hom, led, consistent}
+use Rattle.bits.proofs.RowXor.{has-⊻}
 use Rattle.gf2.proofs.Reduced.{zero-words}
-use Rattle.gf2.proofs.Solutions.{after, rest}
+use Rattle.gf2.proofs.Solutions.{after, rest, rest-length}
 use Rattle.meaning.specs.Sheet.{ruleAt, rules, early}
 use Rattle.meaning.specs.Codewords.{erased, candidates}
 use Rattle.meaning.specs.Open.{unknowns, equations}
-use Rattle.meaning.specs.Answers.{Reply, leaving, writing, numbersOf, verdict}
+use Rattle.meaning.specs.Answers.{Reply, leaving, writing, verdict}
 use Rattle.meaning.specs.declared.Answer.{Answer}
 use Rattle.meaning.specs.declared.Answer.the-variants.{Unique, Ambiguous, Inconsistent, LaneInconsistent}
-use Rattle.descent.proofs.Running.{rows-next, rows-sizes}
-use Rattle.verdict.specs.Reading.{settledBy, firstBy, lastBy, stripsBy, verdictBy}
+use Rattle.model.specs.RowValues.{rowsOut, rowsSystem}
+use Rattle.model.proofs.RowValues.{rows-next, rows-sizes}
+use Rattle.verdict.specs.OffRows.{settledBy, firstBy, lastBy, stripsBy, verdictBy}
 use Rattle.verdict.proofs.OneBit.{has-nought, has-same, has-other, unit-row}
 use Rattle.verdict.proofs.Listing.{tab-places}
-use Rattle.verdict.proofs.Places.{solutions, block, sized, verdict-rows}
-use Rattle.verdict.proofs.Lanes.{Constant, laneSym, laneWord, symsOf, rowsOut, rowsSystem, lane-within, lane-candidates}
-use Rattle.lanes.specs.Lanes.{upTo, packed, laneConstant, firstUnsound, rowByte, rowRecord, rowMark, rowRepaired, rowReply}
+use Rattle.verdict.proofs.Lanes.{Constant, laneSym, laneWord}
+use Rattle.verdict.proofs.Lanes as law
+use Rattle.lanes.specs.Lanes.{upTo, laneConstant, firstUnsound, rowByte, rowRecord, rowMark, rowRepaired, rowReply}
 use Rattle.lanes.proofs.Constants.{common-is, own-is}
 use Rattle.lanes.proofs.Collecting.{place-below}
 use Rattle.lanes.proofs.Spelling.{packed-ext}
@@ -73,10 +70,6 @@ module _ (c w n : ℕ) (strip v : List ℕ) (hw : c + 9 ≡ w) (pl : Placed c w 
   pub bare-lead : (j : ℕ) → j < n → lead c (row w v j) ≡ 0
   bare-lead j h = zero-words c (row w v j) (λ k l. bare-word j k h (omega arith))
 
-  pub bare-dot : (z : List Bool) → length z ≤ 64 * c → (j : ℕ) → j < n → dot 0 (row w v j) z ≡ false
-  unfolding hasAt
-  bare-dot z lz j h = dot-none 0 (row w v j) z (λ i p q. rw (bare-word j (i / 64) h (omega arith)) (zero-bit (i % 64)))
-
   pub row-lane : (t : ℕ) → t < 512 → (j : ℕ) → j < n → bit (laneConstant c t (row w v j)) ≡ laneBit strip j t
   row-lane t ht j h =
       let x = row w v j in
@@ -109,39 +102,18 @@ module _ (n : ℕ) (sheet word strip v : List ℕ) (c w r : ℕ) (hw : c + 9 ≡
   hc : c < w
   hc = omega arith
 
-  next : (rowsOut c w (ruleAt sheet) n (symsOf word (row w v))) .after .next ≤ g
-  next = omega (arith, rows-next c w n sheet word v lw)
+  next : (rowsOut c w (ruleAt sheet) n word (row w v)) .after .next ≤ g
+  unfolding rules
+  next = omega (arith, rows-next c w (ruleAt sheet) n word (row w v) lw)
 
   abbrev E : List Row
-  E = rowsSystem c w (ruleAt sheet) n (symsOf word (row w v)) r
+  E = rowsSystem c w (ruleAt sheet) n word (row w v) r
 
   abbrev X : List Row
-  X = (rowsOut c w (ruleAt sheet) n (symsOf word (row w v))) .block
-
-  bounds : Within c g X × ((r : ℕ) → Within c g (rowsSystem c w (ruleAt sheet) n (symsOf word (row w v)) r))
-  bounds = lane-within c w g hc hg (ruleAt sheet) n word (row w v) next (λ j h. let e = bare-lead c w (2 ^ n) strip v hw pl j (omega arith) in omega arith)
-
-  pub system-low : Within c g E
-  system-low = bounds .1 r
-
-  abbrev cs : ℕ → List (List Bool)
-  cs t = candidates n (rules n sheet) r (laneIn strip word t)
+  X = (rowsOut c w (ruleAt sheet) n word (row w v)) .block
 
   abbrev κ : ℕ → Row → Bool
   κ t = laneConstant c t
-
-  abbrev listed : ℕ → List (List Bool)
-  listed t = map (block c (κ t) (lane-hom c w g hw hg t) E X g hg system-low) (solutions c (κ t) (lane-hom c w g hw hg t) E X g hg system-low)
-
-  pub lane-law : (t : ℕ) → t < 512 → cs t ≡ listed t
-  unfolding rules
-  lane-law t ht =
-      ap (candidates n (rules n sheet) r) (sym (lane-word c w (2 ^ n) strip v hw pl word lw t ht))
-      ∙ lane-candidates c w g hc hg (ruleAt sheet) n word (row w v) next (κ t) (lane-constant c w g hw hg t)
-      (λ z lz j h. bare-dot c w (2 ^ n) strip v hw pl z (omega arith) j (omega arith)) lw refl ok r
-
-  long : length X ≡ 2 ^ n
-  long = rows-sizes c w n sheet word v lw .0
 
   abbrev A : List Row
   A = after c E X
@@ -150,7 +122,7 @@ module _ (n : ℕ) (sheet word strip v : List ℕ) (c w r : ℕ) (hw : c + 9 ≡
   R = rest c E X
 
   long-rest : length R ≡ 2 ^ n
-  long-rest = sized c (κ 0) (lane-hom c w g hw hg 0) E X g hg system-low ∙ long
+  long-rest = rest-length c E X ∙ rows-sizes c w (ruleAt sheet) n word (row w v) lw .0
 
   abbrev d : ℕ
   d = g - (solve c E X) .rank
@@ -162,7 +134,10 @@ module _ (n : ℕ) (sheet word strip v : List ℕ) (c w r : ℕ) (hw : c + 9 ≡
   zeros = replicate (3 * 2 ^ n) 0
 
   pub lane-verdict : (t : ℕ) → t < 512 → T t ≡ verdictBy c (κ t) (stripsBy c (κ t) R) g m (solve c E X) zeros
-  lane-verdict t ht = ap (λ (l : List (List Bool)). verdict n g m l zeros) (lane-law t ht) ∙ verdict-rows c (κ t) (lane-hom c w g hw hg t) E X g hg system-low (bounds .0) n long m zeros
+  unfolding rules
+  lane-verdict t ht =
+      ap (λ (x : List ℕ). verdict n g m (candidates n (rules n sheet) r x) zeros) (sym (lane-word c w (2 ^ n) strip v hw pl word lw t ht))
+      ∙ law.lane-verdict c w g hc hg (ruleAt sheet) n word (row w v) next (λ j h. bare-lead c w (2 ^ n) strip v hw pl j (omega arith)) (κ t) (lane-constant c w g hw hg t) lw refl ok r m zeros
 
   -- ---- the first inconsistent lane
 

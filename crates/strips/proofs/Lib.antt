@@ -1,9 +1,8 @@
--- Loops: what the loops keep. Faults: the faults of form. Lanewise: each lane of the rows is the decoder's. Solver, Descents: what the calls leave, and what is
+-- Loops: what the loops keep. Faults: the faults of form. Lanewise: each lane of the rows is the decoder's. Solved: what `system` leaves, and what is
 -- decided. Kept: what a call leaves. Promise: what follows from the promise of `repair`.
 pub mod Loops
-pub mod Solver
 pub mod Faults
 pub mod Lanewise
-pub mod Descents
+pub mod Solved
 pub mod Kept
 pub mod Promise

@@ -4,7 +4,7 @@
 --     symbol-.., lost-is        what is lost, as a word
 use mathlib.Core.Path.{_≡_, refl, sym, ap, _∙_, subst}
 use mathlib.Core.Logic.{_⊎_, inl, inr, ⊎-elim}
-use Prim.Native.Nat.{ℕ, zero, suc, _+_, _*_, _≤_, _<_}
+use Prim.Native.Nat.{ℕ, _+_, _*_, _≤_, _<_}
 use native.Mathlib.Omega.{arith}
 use native.Mathlib.Nat.{eq-or-lt-of-le}
 use mathlib.Core.List.{List, [], _∷_, map}
@@ -14,9 +14,10 @@ use borrow.Author.Tests.{eq-eqb, ne-eqb}
 use Rattle.bits.specs.Vectors.{tab}
 use Rattle.bits.specs.Rows.{zeroed}
 use Rattle.bits.specs.Bytes.{Holds}
-use Rattle.bits.proofs.Tests.{eq-or-ne}
-use Rattle.bits.proofs.RowLaws.{row-fit, zeroed-fits, paste-all}
-use Rattle.lanes.proofs.Collecting.{zero-at}
+use Rattle.bits.proofs.Tests.{eq-or-ne, lt-or-gt}
+use Rattle.bits.proofs.RowLaws.{row-fit}
+use Rattle.bits.proofs.RowsWritten.{zeroed-fits, paste-all}
+use Rattle.bits.proofs.RowXor.{getD-nought}
 use Rattle.strips.specs.Placing.{PutLanes, Placed, lostSym, lostWord}
 
 -- ---- the words of one record
@@ -54,18 +55,12 @@ pub record PlacedUpTo (j c w n : ℕ) (strip v : List ℕ) : Type 0 where
 pub place-start : (c w n : ℕ) (strip v v′ : List ℕ) → v′ ≡ zeroed v 0 (length v) → PlacedUpTo 0 c w n strip v′
 place-start c w n strip v v′ e =
     let z : v′ ≡ replicate (length v) 0 = e ∙ zeroed-fits v 0 (length v) (omega arith) ∙ paste-all v (replicate (length v) 0) (length v) refl (length-replicate (length v) 0) in
-    record { bare = λ i q h k. ap (λ (l : List ℕ). getD l (i * w + q) 0) z ∙ zero-at (length v) (i * w + q); lanes = λ i k p h. absurd (omega arith) }
+    record { bare = λ i q h k. ap (λ (l : List ℕ). getD l (i * w + q) 0) z ∙ getD-nought (length v) (i * w + q); lanes = λ i k p h. absurd (omega arith) }
 
 module _ {j c w n : ℕ} {strip v v′ : List ℕ} (u : PlacedUpTo j c w n strip v) (hj : j < n) (hw : c + 9 ≡ w) (o : PutLanes (j * w + (c + 1)) (j * 64) strip v v′) where
   -- a place before the record's words, or behind them
   outside : (i q : ℕ) → (i ≡ j → ⊥) → q < w → (i * w + q < j * w + (c + 1)) ⊎ (j * w + (c + 1) + 8 ≤ i * w + q)
-  outside i q ne h = ⊎-elim (λ (a : i < j). let f = row-fit i j w a in inl (omega arith)) (λ (a : j < i). let f = row-fit j i w a in inr (omega arith)) (i-or-j i j ne)
-    where
-      i-or-j : (i j : ℕ) → (i ≡ j → ⊥) → (i < j) ⊎ (j < i)
-      i-or-j zero zero ne = absurd (ne refl)
-      i-or-j zero (suc j) ne = inl (omega arith)
-      i-or-j (suc i) zero ne = inr (omega arith)
-      i-or-j (suc i) (suc j) ne = ⊎-elim (λ (a : i < j). inl (omega arith)) (λ (a : j < i). inr (omega arith)) (i-or-j i j (λ e. ne (ap suc e)))
+  outside i q ne h = ⊎-elim (λ (a : i < j). let f = row-fit i j w a in inl (omega arith)) (λ (a : j < i). let f = row-fit j i w a in inr (omega arith)) (lt-or-gt i j ne)
 
   pub place-turn : PlacedUpTo (j + 1) c w n strip v′
   place-turn =

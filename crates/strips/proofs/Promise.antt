@@ -29,7 +29,7 @@ use Rattle.meaning.specs.Sheet.{Rule, rules}
 use Rattle.meaning.specs.Codewords.{fits, agrees, candidates}
 use Rattle.meaning.specs.Open.{unknowns, equations}
 use Rattle.meaning.specs.Strips.{settledAt}
-use Rattle.meaning.specs.Answers.{Reply, numbersOf, firstOf, refuses, formRefusals, leaving, writing, verdict, decoding}
+use Rattle.meaning.specs.Answers.{Reply, numbersOf, firstOf, refuses, formRefusals, reply, leaving, writing, verdict, decoding}
 use Rattle.meaning.specs.declared.Answer.{Answer}
 use Rattle.meaning.specs.declared.Answer.the-variants.{TooMany}
 use Rattle.meaning.proofs.Refusals.{refused-untouched, past-none}
@@ -45,11 +45,11 @@ use Rattle.strips.proofs.Faults.{lanes-erased, lane-formed, marks-many}
 use Rattle.strips.proofs.Kept.{record-long, reply-below}
 
 pub repair-determined : (n : ℕ) (s : List ℕ) (r c : ℕ) (strip lost out x x′ : List ℕ) (a a′ : Answer)
-    → leaving x a ≡ repairing n s r c strip lost out → leaving x′ a′ ≡ repairing n s r c strip lost out → (a ≡ a′) × (x ≡ x′)
+    → reply x a ≡ repairing n s r c strip lost out → reply x′ a′ ≡ repairing n s r c strip lost out → (a ≡ a′) × (x ≡ x′)
 repair-determined n s r c strip lost out x x′ a a′ p q = reply-determined a a′ x x′ (repairing n s r c strip lost out) p q
 
 pub repair-untouched : (n : ℕ) (s : List ℕ) (r c : ℕ) (strip lost out x : List ℕ) (a : Answer)
-    → leaving x a ≡ repairing n s r c strip lost out → refuses (repairRefusals n s r c strip lost out) ≡ true → x ≡ out
+    → reply x a ≡ repairing n s r c strip lost out → refuses (repairRefusals n s r c strip lost out) ≡ true → x ≡ out
 unfolding repairing
 repair-untouched n s r c strip lost out x a p h = ap (λ (t : Reply). t .bytes) p ∙ refused-untouched out (repairRefusals n s r c strip lost out) _ h
 
@@ -108,7 +108,7 @@ accepted n g m o [] h = absurd (omega arith)
 accepted n g m o (x ∷ []) h = omega arith
 accepted n g m o (x ∷ y ∷ cs) h = omega arith
 
-module _ (n : ℕ) (s : List ℕ) (r c : ℕ) (w o o′ : List ℕ) (ok : refuses (formRefusals n s r c w o) ≡ false) (ok′ : refuses (formRefusals n s r c w o′) ≡ false) where
+module _ (n : ℕ) (s : List ℕ) (r c : ℕ) (w o o′ : List ℕ) (ok : refuses (formRefusals n s r c w (length o)) ≡ false) (ok′ : refuses (formRefusals n s r c w (length o′)) ≡ false) where
   abbrev G : ℕ
   G = unknowns n (rules n s) w
 
@@ -225,9 +225,9 @@ module _ (n : ℕ) (lane : ℕ → Reply) (rest x : List ℕ) (e : x ≡ repaire
 
 -- ---- a strip without a fault of form
 
-module _ (n : ℕ) (s : List ℕ) (r c : ℕ) (strip lost out x : List ℕ) (a : Answer) (p : leaving x a ≡ repairing n s r c strip lost out) (ok : refuses (repairForm n s r c (length strip) lost (length out)) ≡ false) where
+module _ (n : ℕ) (s : List ℕ) (r c : ℕ) (strip lost out x : List ℕ) (a : Answer) (p : reply x a ≡ repairing n s r c strip lost out) (ok : refuses (repairForm n s r c (length strip) lost (length out)) ≡ false) where
   abbrev A : Reply
-  A = leaving x a
+  A = reply x a
 
   abbrev L : ℕ → Reply
   L = laneReply n s r c strip lost
@@ -241,7 +241,7 @@ module _ (n : ℕ) (s : List ℕ) (r c : ℕ) (strip lost out x : List ℕ) (a :
   room : 3 * 2 ^ n ≤ length zeros
   room = omega (arith, length-replicate {A = ℕ} (3 * 2 ^ n) 0)
 
-  good : (t : ℕ) → refuses (formRefusals n s r c (laneOf strip lost t) zeros) ≡ false
+  good : (t : ℕ) → refuses (formRefusals n s r c (laneOf strip lost t) (length zeros)) ≡ false
   good t = lane-formed n s r c strip lost out ok t zeros room
 
   -- 18, or what the lanes say
@@ -346,7 +346,7 @@ module _ (n : ℕ) (s : List ℕ) (r c : ℕ) (strip lost out x : List ℕ) (a :
     abbrev B : Reply
     B = leaving y b
 
-    formed : refuses (formRefusals n s r c (laneOf strip lost t) o) ≡ false
+    formed : refuses (formRefusals n s r c (laneOf strip lost t) (length o)) ≡ false
     formed = lane-formed n s r c strip lost out ok t o ro
 
     b-is : b ≡ (L t) .answer

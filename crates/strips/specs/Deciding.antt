@@ -1,32 +1,22 @@
 -- Repairing, part by part.
---     repairFault        the fault of form that it is refused for: the first that applies, Done where none does
 --     laneIn             the word of lane t, of symbols above 1 where the record is lost
 --     repairDeciding     what is left once no fault of form is found: too many unknowns, or the reply
 --     Formed             no fault of form: what these refusals leave
---     Settling           what the last step needs of a descent
 use mathlib.Core.Path.{_≡_}
 use mathlib.Core.Logic.{_⊎_}
-use Prim.Native.Nat.{ℕ, _+_, _*_, _^_, _≤_}
+use Prim.Native.Nat.{ℕ, _*_, _^_, _≤_}
 use mathlib.Core.Bool.{true}
 use mathlib.Core.List.{List}
 use lib.ListN.{length, getD, replicate}
 use lib.Dec.{ltb}
 use Rattle.bits.specs.Vectors.{pick, tab}
-use Rattle.gf2.specs.Rows.{rowsOf}
-use Rattle.gf2.specs.Solve.{solve}
 use Rattle.meaning.specs.Limits.{largestN, recordBytes, largestCeiling}
 use Rattle.meaning.specs.Sheet.{rules, frees, early}
 use Rattle.meaning.specs.Codewords.{erased, candidates}
 use Rattle.meaning.specs.Open.{unknowns, equations}
-use Rattle.meaning.specs.Answers.{firstOf, Reply, leaving, verdict}
-use Rattle.meaning.specs.declared.Answer.{Answer}
-use Rattle.meaning.specs.declared.Answer.the-variants.{Done, TooMany}
-use Rattle.descent.specs.Descending.{widest}
-use Rattle.decoder.specs.Deciding.{systemRows}
-use Rattle.strips.specs.Repairing.{laneBit, repairForm, stripReply}
-
-unfoldable pub repairFault : ℕ → List ℕ → ℕ → ℕ → ℕ → List ℕ → ℕ → Answer
-repairFault n s r c strip lost room = firstOf (λ (a : Answer). a) (repairForm n s r c strip lost room) Done
+use Rattle.meaning.specs.Answers.{Reply, leaving, verdict}
+use Rattle.meaning.specs.declared.Answer.the-variants.{TooMany}
+use Rattle.strips.specs.Repairing.{laneBit, stripReply}
 
 abbrev pub laneIn : List ℕ → List ℕ → ℕ → List ℕ
 laneIn strip word t = tab (length word) (λ (j : ℕ). pick (erased (getD word j 2)) 2 (laneBit strip j t))
@@ -51,16 +41,3 @@ pub record Formed (n : ℕ) (s : List ℕ) (r c strip word out : ℕ) : Type 0 w
   pub symbols : word ≡ 2 ^ n
   pub room : 65 * 2 ^ n ≤ out
   pub low : c ≤ largestCeiling
-
--- what a descent leaves, with room for the check's rows and the answer
-pub record Settling (co wd n : ℕ) (s : List ℕ) (r g m : ℕ) (us eqs vals : List ℕ) (room : ℕ) : Type 0 where
-  pub small : n ≤ largestN
-  pub long : length s ≡ 2 ^ n * recordBytes
-  pub check : (r ≡ 0) ⊎ ((r ≡ 6) ⊎ (r ≡ 11))
-  pub wide : co + 9 ≡ wd
-  pub narrow : wd ≤ widest
-  pub rows-u : length us ≡ 2 ^ n * wd
-  pub rows-v : length vals ≡ 2 ^ n * wd
-  pub rows-e : (m + r) * wd ≤ length eqs
-  pub roomy : 65 * 2 ^ n ≤ room
-  pub rank : (solve co (systemRows co wd n s r m us eqs) (rowsOf wd vals)) .rank ≤ g

@@ -4,12 +4,13 @@
 --     mostWords               of the largest N and the most unknowns
 use Prim.Native.Nat.{ℕ, _+_, _*_, _/_, _^_}
 use Rattle.meaning.specs.Limits.{largestN, largestCeiling}
+use Rattle.system.specs.Solving.{longestCheck}
 
 unfoldable pub fewWords : ℕ
-fewWords = 160
+fewWords = 270
 
 unfoldable pub someWords : ℕ
-someWords = 1280
+someWords = 1390
 
 unfoldable pub mostWords : ℕ
-mostWords = 2 ^ largestN * (largestCeiling / 64 + 10)
+mostWords = (2 ^ largestN + longestCheck) * (largestCeiling / 64 + 10)

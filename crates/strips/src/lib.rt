@@ -2,10 +2,10 @@
 // t mod 8 of byte t div 8 of each record. What depends on the losses alone is done once.
 ghost use mathlib.Core.Path.{_≡_};
 ghost use lib.ListN.{length};
-ghost use Rattle.meaning.specs.Answers.{leaving};
-ghost use Rattle.strips.specs.Repairing.{repairing};
+ghost use Rattle.meaning.specs.Answers.{fault, reply};
+ghost use Rattle.strips.specs.Repairing.{repairForm, repairing};
 ghost use Rattle.strips.specs.Placing.{lostWord};
-ghost use Rattle.strips.specs.Deciding.{repairFault, repairDeciding, Formed};
+ghost use Rattle.strips.specs.Deciding.{repairDeciding, Formed};
 
 mod place;
 mod rooms;
@@ -25,18 +25,18 @@ fn fault(
     lost: &[u8],
     room: usize,
 ) -> Answer
-    ensures { λ a. ⌜ a ≡ repairFault n (now (sheet .entry)) r ceiling strip (now (lost .entry)) room ⌝ }
+    ensures { λ a. ⌜ a ≡ fault (repairForm n (now (sheet .entry)) r ceiling strip (now (lost .entry)) room) ⌝ }
 {
-    let a = form::check_sheet(n, sheet, r);
-    if !meaning::is_done(a) {
+    let a = sheet::check_sheet(n, sheet, r);
+    if !answers::is_done(a) {
         return a;
     }
     let size = sheet.len() / limits::RECORD;
     if strip != size * 64 {
         return Answer::BadLength;
     }
-    let b = form::check_word(lost, size, 1, room, 65 * size);
-    if !meaning::is_done(b) {
+    let b = sheet::check_word(lost, size, 1, room, 65 * size);
+    if !answers::is_done(b) {
         return b;
     }
     if limits::LARGEST_CEILING < ceiling {
@@ -57,7 +57,7 @@ fn decide(
     out: &mut [u8],
 ) -> Answer
     requires { ⌜ Formed n (now sheet) r ceiling (length (now strip)) (length (now word)) (length (now out)) ⌝ }
-    ensures { λ a. ⌜ leaving (now (out .exit)) a ≡ repairDeciding n (now (sheet .entry)) r ceiling (now (strip .entry)) (now (word .entry)) (now (out .entry)) ⌝ }
+    ensures { λ a. ⌜ reply (now (out .exit)) a ≡ repairDeciding n (now (sheet .entry)) r ceiling (now (strip .entry)) (now (word .entry)) (now (out .entry)) ⌝ }
 {
     let g = counting::unknowns(n, sheet, word);
     if ceiling < g {
@@ -78,7 +78,7 @@ fn decide_lost(
     out: &mut [u8],
 ) -> Answer
     requires { ⌜ Formed n (now sheet) r ceiling (length (now strip)) (length (lostWord (now lost))) (length (now out)) × (length (now word) ≡ length (now lost)) ⌝ }
-    ensures { λ a. ⌜ leaving (now (out .exit)) a ≡ repairDeciding n (now (sheet .entry)) r ceiling (now (strip .entry)) (lostWord (now (lost .entry))) (now (out .entry)) ⌝ }
+    ensures { λ a. ⌜ reply (now (out .exit)) a ≡ repairDeciding n (now (sheet .entry)) r ceiling (now (strip .entry)) (lostWord (now (lost .entry))) (now (out .entry)) ⌝ }
 {
     place::erase(lost, word);
     decide(n, sheet, r, ceiling, strip, word, out)
@@ -90,7 +90,7 @@ fn decide_lost(
 // settled and zeros where they are not, followed by N marks, 1 for a record that is not settled: with Unique none is. Later
 // bytes are as found.
 // Answers LaneInconsistent (2) with the first lane in which no codeword agrees, and g and m.
-// Refuses (as form::check_sheet; 14: the strip is not 64N bytes, or there are not N marks; 15: the first mark above 1; 16: the
+// Refuses (as sheet::check_sheet; 14: the strip is not 64N bytes, or there are not N marks; 15: the first mark above 1; 16: the
 // output is shorter than 65N; 17: the ceiling is above 255; 18: g is above the ceiling). LaneInconsistent and refusals leave
 // the output as found.
 pub fn repair(
@@ -102,10 +102,10 @@ pub fn repair(
     lost: &[u8],
     out: &mut [u8],
 ) -> Answer
-    ensures { λ a. ⌜ leaving (now (out .exit)) a ≡ repairing n (now (sheet .entry)) r ceiling (now (strip .entry)) (now (lost .entry)) (now (out .entry)) ⌝ }
+    ensures { λ a. ⌜ reply (now (out .exit)) a ≡ repairing n (now (sheet .entry)) r ceiling (now (strip .entry)) (now (lost .entry)) (now (out .entry)) ⌝ }
 {
     let a = fault(n, sheet, r, ceiling, strip.len(), lost, out.len());
-    if !meaning::is_done(a) {
+    if !answers::is_done(a) {
         return a;
     }
     let mut word = [0u8; limits::POSITIONS];

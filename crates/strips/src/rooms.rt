@@ -1,8 +1,9 @@
-// Room for the rows of a strip, by need: clearing room for the largest code costs more than answering a short strip.
+// Room for the rows of a strip, N records and N + r equations, by need: clearing room for the largest code costs more than
+// answering a short strip.
 ghost use mathlib.Core.Path.{_≡_};
 ghost use Prim.Native.Nat.{_+_, _*_, _≤_};
 ghost use lib.ListN.{length};
-ghost use Rattle.meaning.specs.Answers.{leaving};
+ghost use Rattle.meaning.specs.Answers.{reply};
 ghost use Rattle.descent.specs.Descending.{widest};
 ghost use Rattle.strips.specs.Deciding.{repairDeciding, Formed};
 ghost use Rattle.strips.specs.Rooms.{fewWords, someWords, mostWords};
@@ -11,13 +12,14 @@ use meaning::Answer;
 use meaning::limits;
 
 // Enough for N = 16 and up to 63 unknowns.
-const FEW: usize = 160;
+const FEW: usize = 270;
 
 // Enough for N = 128 and up to 63 unknowns.
-const SOME: usize = 1280;
+const SOME: usize = 1390;
 
 // Enough for the largest N and the most unknowns.
-const MOST: usize = limits::POSITIONS * (limits::LARGEST_CEILING / 64 + 10);
+const MOST: usize = (limits::POSITIONS + system::LONGEST_CHECK)
+    * (limits::LARGEST_CEILING / 64 + 10);
 
 // `answer`, in slices with room for the rows.
 fn within(
@@ -34,10 +36,11 @@ fn within(
     out: &mut [u8],
 ) -> Answer
     requires { ⌜ Formed n (now sheet) r g (length (now strip)) (length (now word)) (length (now out)) ⌝ }
-    requires { ⌜ (g ≤ 64 * c) × (c + 9 ≤ widest) × (length (now word) * (c + 9) ≤ length (now vals)) × (length (now word) * (c + 9) ≤ length (now us)) × (length (now word) * (c + 9) ≤ length (now eqs)) ⌝ }
-    ensures { λ a. ⌜ leaving (now (out .exit)) a ≡ repairDeciding n (now (sheet .entry)) r g (now (strip .entry)) (now (word .entry)) (now (out .entry)) ⌝ }
+    requires { ⌜ (g ≤ 64 * c) × (c + 9 ≤ widest) × (length (now word) * (c + 9) ≤ length (now vals)) × (length (now word) * (c + 9) ≤ length (now us)) × ((length (now word) + r) * (c + 9) ≤ length (now eqs)) ⌝ }
+    ensures { λ a. ⌜ reply (now (out .exit)) a ≡ repairDeciding n (now (sheet .entry)) r g (now (strip .entry)) (now (word .entry)) (now (out .entry)) ⌝ }
 {
     let k = word.len() * (c + 9);
+    let q = (word.len() + r) * (c + 9);
     solving::answer(
         c,
         c + 9,
@@ -49,7 +52,7 @@ fn within(
         word,
         &mut vals[0..k],
         &mut us[0..k],
-        &mut eqs[0..k],
+        &mut eqs[0..q],
         out,
     )
 }
@@ -66,8 +69,8 @@ fn few(
     out: &mut [u8],
 ) -> Answer
     requires { ⌜ Formed n (now sheet) r g (length (now strip)) (length (now word)) (length (now out)) ⌝ }
-    requires { ⌜ (g ≤ 64 * c) × (c + 9 ≤ widest) × (length (now word) * (c + 9) ≤ fewWords) ⌝ }
-    ensures { λ a. ⌜ leaving (now (out .exit)) a ≡ repairDeciding n (now (sheet .entry)) r g (now (strip .entry)) (now (word .entry)) (now (out .entry)) ⌝ }
+    requires { ⌜ (g ≤ 64 * c) × (c + 9 ≤ widest) × ((length (now word) + r) * (c + 9) ≤ fewWords) ⌝ }
+    ensures { λ a. ⌜ reply (now (out .exit)) a ≡ repairDeciding n (now (sheet .entry)) r g (now (strip .entry)) (now (word .entry)) (now (out .entry)) ⌝ }
 {
     let mut vals = [0u64; FEW];
     let mut us = [0u64; FEW];
@@ -99,8 +102,8 @@ fn some(
     out: &mut [u8],
 ) -> Answer
     requires { ⌜ Formed n (now sheet) r g (length (now strip)) (length (now word)) (length (now out)) ⌝ }
-    requires { ⌜ (g ≤ 64 * c) × (c + 9 ≤ widest) × (length (now word) * (c + 9) ≤ someWords) ⌝ }
-    ensures { λ a. ⌜ leaving (now (out .exit)) a ≡ repairDeciding n (now (sheet .entry)) r g (now (strip .entry)) (now (word .entry)) (now (out .entry)) ⌝ }
+    requires { ⌜ (g ≤ 64 * c) × (c + 9 ≤ widest) × ((length (now word) + r) * (c + 9) ≤ someWords) ⌝ }
+    ensures { λ a. ⌜ reply (now (out .exit)) a ≡ repairDeciding n (now (sheet .entry)) r g (now (strip .entry)) (now (word .entry)) (now (out .entry)) ⌝ }
 {
     let mut vals = [0u64; SOME];
     let mut us = [0u64; SOME];
@@ -132,8 +135,8 @@ fn most(
     out: &mut [u8],
 ) -> Answer
     requires { ⌜ Formed n (now sheet) r g (length (now strip)) (length (now word)) (length (now out)) ⌝ }
-    requires { ⌜ (g ≤ 64 * c) × (c + 9 ≤ widest) × (length (now word) * (c + 9) ≤ mostWords) ⌝ }
-    ensures { λ a. ⌜ leaving (now (out .exit)) a ≡ repairDeciding n (now (sheet .entry)) r g (now (strip .entry)) (now (word .entry)) (now (out .entry)) ⌝ }
+    requires { ⌜ (g ≤ 64 * c) × (c + 9 ≤ widest) × ((length (now word) + r) * (c + 9) ≤ mostWords) ⌝ }
+    ensures { λ a. ⌜ reply (now (out .exit)) a ≡ repairDeciding n (now (sheet .entry)) r g (now (strip .entry)) (now (word .entry)) (now (out .entry)) ⌝ }
 {
     let mut vals = [0u64; MOST];
     let mut us = [0u64; MOST];
@@ -165,10 +168,10 @@ pub fn answer(
     out: &mut [u8],
 ) -> Answer
     requires { ⌜ Formed n (now sheet) r g (length (now strip)) (length (now word)) (length (now out)) ⌝ }
-    requires { ⌜ (g ≤ 64 * c) × (c + 9 ≤ widest) × (length (now word) * (c + 9) ≤ mostWords) ⌝ }
-    ensures { λ a. ⌜ leaving (now (out .exit)) a ≡ repairDeciding n (now (sheet .entry)) r g (now (strip .entry)) (now (word .entry)) (now (out .entry)) ⌝ }
+    requires { ⌜ (g ≤ 64 * c) × (c + 9 ≤ widest) × ((length (now word) + r) * (c + 9) ≤ mostWords) ⌝ }
+    ensures { λ a. ⌜ reply (now (out .exit)) a ≡ repairDeciding n (now (sheet .entry)) r g (now (strip .entry)) (now (word .entry)) (now (out .entry)) ⌝ }
 {
-    let words = word.len() * (c + 9);
+    let words = (word.len() + r) * (c + 9);
     if words <= FEW {
         return few(c, n, sheet, r, g, strip, word, out);
     }

@@ -12,29 +12,24 @@ use mathlib.Core.Bool.{Bool, true, false, _&&_}
 use mathlib.Core.List.{List, [], _∷_}
 use lib.ListN.{getD, length-replicate}
 use lib.Seq.{getD-set-same, getD-set-other}
+use Rattle.bits.proofs.RowXor.{getD-nought}
 use Rattle.bits.specs.Vectors.{_⊕_}
 use Rattle.bits.specs.Words.{hasBit}
-use Rattle.bits.specs.Rows.{Row}
+use Rattle.bits.specs.Rows.{Row, hasAt, has, noughtRow}
 use Rattle.bits.proofs.Tests.{eq-or-ne, le-or-lt, not-both}
 use Rattle.bits.proofs.Xor.{⊕-false}
 use Rattle.bits.proofs.WordBits.{zero-bit, bit-same, bit-other}
-use Rattle.gf2.specs.Rows.{hasAt, has}
 use Rattle.gf2.specs.Solve.{lead}
 use Rattle.gf2.specs.System.{dot}
 use Rattle.gf2.proofs.Leads.{lead-holds, lead-le}
-use Rattle.gf2.proofs.Fill.{dot-none}
-use Rattle.ruling.specs.Values.{noughtRow, unitRow, unknownRow}
+use Rattle.gf2.proofs.Sums.{dot-none}
+use Rattle.model.specs.RowValues.{unitRow, unknownRow}
 
 -- ---- the bits of the rows
 
-getD-noughts : (w k : ℕ) → getD (noughtRow w) k 0 ≡ 0
-getD-noughts zero k = refl
-getD-noughts (suc w) zero = refl
-getD-noughts (suc w) (suc k) = getD-noughts w k
-
 pub has-nought : (w b : ℕ) → has b (noughtRow w) ≡ false
 unfolding hasAt
-has-nought w b = rw (getD-noughts w (b / 64)) (zero-bit (b % 64))
+has-nought w b = rw (getD-nought w (b / 64)) (zero-bit (b % 64))
 
 module _ (w k : ℕ) (h : k / 64 < w) where
   word-same : getD (unknownRow w k) (k / 64) 0 ≡ 2 ^ (k % 64)
@@ -50,7 +45,7 @@ module _ (w k : ℕ) (h : k / 64 < w) where
     where
       go : (b / 64 ≡ k / 64) ⊎ (b / 64 ≡ k / 64 → ⊥) → hasBit (getD (unknownRow w k) (b / 64) 0) (b % 64) ≡ false
       go (inl q) = rw (q, word-same) (bit-other (k % 64) (b % 64) (λ (p : b % 64 ≡ k % 64). n (omega arith)))
-      go (inr q) = rw (getD-set-other (noughtRow w) (k / 64) (b / 64) (2 ^ (k % 64)) 0 q, getD-noughts w (b / 64)) (zero-bit (b % 64))
+      go (inr q) = rw (getD-set-other (noughtRow w) (k / 64) (b / 64) (2 ^ (k % 64)) 0 q, getD-nought w (b / 64)) (zero-bit (b % 64))
 
 -- 1 is the unknown behind all coefficients
 pub unit-row : (c w : ℕ) → unitRow c w ≡ unknownRow w (64 * c)

@@ -13,22 +13,19 @@ use lib.ListN.{length, getD, replicate, length-map, length-set, length-replicate
 use lib.Dec.{eqb}
 use borrow.Author.Tests.{eq-eqb, ne-eqb}
 use Rattle.bits.specs.Vectors.{_⊕_, bit, pick, filter, allBits, Before}
-use Rattle.bits.specs.Rows.{Row}
-use Rattle.bits.proofs.Tests.{filter-mem, mem-filter, length-filter}
+use Rattle.bits.specs.Rows.{Row, at}
+use Rattle.bits.proofs.Tests.{filter-mem, mem-filter, length-filter, getD-map}
 use Rattle.bits.proofs.Xor.{⊕-false}
 use Rattle.bits.proofs.Rising.{all-bits, bits-length, rises-bits, rises-filter}
-use Rattle.gf2.specs.Rows.{at}
 use Rattle.gf2.specs.Solve.{lead, solve}
-use Rattle.gf2.specs.System.{Within, Hom, led, dot, value, solves, consistent, completed, unit}
-use Rattle.gf2.proofs.Rows.{has-⊻}
-use Rattle.gf2.proofs.Passes.{getD-map, solve-sized}
-use Rattle.gf2.proofs.Fill.{length-fill, dot-append, dot-none}
+use Rattle.gf2.specs.System.{Within, Hom, dot, value, solves, consistent, completed, unit}
+use Rattle.gf2.proofs.Sums.{dot-append, dot-none}
 use Rattle.gf2.proofs.Leads.{lead-above}
-use Rattle.gf2.proofs.Solutions.{after, rest, rest-within, completed-solves, first-solution, last-solution, solution-count, settled, rest-by-free, first-value, unsettled}
+use Rattle.gf2.proofs.Solutions.{after, rest, rest-length, length-completed, rest-within, completed-solves, first-solution, last-solution, solution-count, settled, rest-by-free, first-value, unsettled}
 use Rattle.meaning.specs.Strips.{settledAt, first, last, strips}
 use Rattle.meaning.specs.Answers.{verdict, writing}
 use Rattle.meaning.specs.declared.Answer.the-variants.{Unique, Ambiguous}
-use Rattle.verdict.specs.Reading.{settledBy, firstBy, lastBy, stripsBy, verdictBy}
+use Rattle.verdict.specs.OffRows.{settledBy, firstBy, lastBy, stripsBy, verdictBy}
 use Rattle.verdict.proofs.Listing.{first-of, last-of, common-same, common-other, tab-places, places, strips-are, verdict-none, verdict-is}
 
 -- κ gives a row's constant
@@ -40,7 +37,7 @@ module _ (c : ℕ) (κ : Row → Bool) (hom : Hom κ) (e r : List Row) (g : ℕ)
   block t = map (value κ t) r
 
   pub sized : length (rest c e r) ≡ length r
-  sized = solve-sized c e r .1
+  sized = rest-length c e r
 
   member : (t : List Bool) → List·Memᴰ t solutions → (length t ≡ g) × (solves κ e t ≡ true)
   member t m = let (k, s) = filter-mem (solves κ e) (allBits g) m in (bits-length g t k, s)
@@ -53,7 +50,7 @@ module _ (c : ℕ) (κ : Row → Bool) (hom : Hom κ) (e r : List Row) (g : ℕ)
 
     -- any choice of the free unknowns gives one
     full : (z : List Bool) → length z ≡ g → List·Memᴰ (completed c κ (after c e r) z) solutions
-    full z l = mem-filter (solves κ e) (all-bits g _ (length-fill c κ (after c e r) [] z ∙ l)) (completed-solves c e r κ hom g hg B ok z l)
+    full z l = mem-filter (solves κ e) (all-bits g _ (length-completed c e r κ z ∙ l)) (completed-solves c e r κ hom g hg B ok z l)
 
     abbrev lowest : List Bool
     lowest = completed c κ (after c e r) (replicate g false)

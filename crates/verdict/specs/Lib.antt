@@ -1,3 +1,7 @@
 -- The verdict on a word, as it is read off the rows that the solver leaves. That it is the right one is proved in proofs/.
---     Reading    the strips and the answer, from reduced rows
-pub mod Reading
+--     OffRows       the strips and the answer, from reduced rows
+--     Words         the strips and the test of the equations, on words
+--     Concluding    what `conclude` promises
+pub mod OffRows
+pub mod Words
+pub mod Concluding

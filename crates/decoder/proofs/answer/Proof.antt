@@ -1,117 +1,118 @@
-use mathlib.Core.Path.{_∙_}
+use mathlib.Core.Path.{sym, ap, _∙_}
+use Prim.Native.Nat.{ℕ, _*_}
+use native.Mathlib.Omega.{arith}
+use lib.ListN.{length, replicate, length-replicate}
+use lib.Seq.{length-take-le}
 use borrow.Author.Needs.{needs}
-use Rattle.decoder.proofs.Descents.{never-misfit, too-many, settling, decided}
+use Rattle.decoder.proofs.Solved.{never-misfit, too-many, in-room, decided}
 use Rattle.decoder.proofs.answer.Statement.{statement}
 use Rattle.decoder.proofs.answer.Tie as tie
 
-descend-requires : tie.Need-descend-requires
-descend-requires c κs = search needs
+place-requires : tie.Need-place-requires
+place-requires c κs = let S = c .before .before .before .before .before .before .before in let P = S .pre in (P .1 .3 ∙ ap (λ (k : ℕ). replicate (k * S .args .w) 0) (sym (P .0 .symbols)), P .1 .0)
 
 enum-told : tie.Need-enum-told
 enum-told c = search needs
 
-enum-known-g : tie.Need-enum-known-g
-enum-known-g c = search needs
+mul-used : tie.Need-mul-used
+mul-used c =
+    let A = c .before .before .before .before .before .before .before .before .before .before .before .before .before .before .before .before .before .before .before .before .before .before .before .args in
+    let P = c .before .before .before .before .before .before .before .before .before .before .before .before .before .before .before .before .before .before .before .before .before .before .before .pre in
+    let Z = c .before .before .before .before .before .before .before .before .before .before .before .before .before .before .before .place in
+    let D = c .before .before .before .before .before .before .before .before .before .solve in
+    omega (
+      arith,
+      in-room (A .c) (A .w) (A .n) (A .sheet .now) (A .r) (A .ceiling) (A .word .now) (A .out .now) (Z .last .1 .0) (A .us .now) (A .eqs .now)
+          (P .0) (P .1 .0) (P .1 .1) (P .1 .2) (Z .kept .1 .0 ∙ ap length (P .1 .3) ∙ length-replicate _ 0) (P .1 .4) (P .1 .5)
+          (D .result) (D .last .1 .1 .1 .0) (D .last .1 .1 .1 .1 .0) (D .last .1 .1 .1 .1 .1 .0) (D .ensures) _ _ _ (c .before .g2 .given .1),
+      D .kept .1 .1 .1 .1 .1 .0,
+      c .before .before .before .before .before .before .before .before .before .before .before .before .before .before .before .before .before .before .before .before .before .before .before .good,
+    )
 
-enum-known-g-2 : tie.Need-enum-known-g-2
-enum-known-g-2 c = search needs
+slice-reshare-prefix-conclude : tie.Need-slice-reshare-prefix-conclude
+slice-reshare-prefix-conclude c =
+    let A = c .before .before .before .before .before .before .before .before .before .before .before .before .before .before .before .before .before .before .before .before .before .before .before .args in
+    let P = c .before .before .before .before .before .before .before .before .before .before .before .before .before .before .before .before .before .before .before .before .before .before .before .pre in
+    let Z = c .before .before .before .before .before .before .before .before .before .before .before .before .before .before .before .place in
+    let D = c .before .before .before .before .before .before .before .before .before .solve in
+    in-room (A .c) (A .w) (A .n) (A .sheet .now) (A .r) (A .ceiling) (A .word .now) (A .out .now) (Z .last .1 .0) (A .us .now) (A .eqs .now)
+    (P .0) (P .1 .0) (P .1 .1) (P .1 .2) (Z .kept .1 .0 ∙ ap length (P .1 .3) ∙ length-replicate _ 0) (P .1 .4) (P .1 .5)
+    (D .result) (D .last .1 .1 .1 .0) (D .last .1 .1 .1 .1 .0) (D .last .1 .1 .1 .1 .1 .0) (D .ensures) _ _ _ (c .before .g2 .given .1)
 
-settle-requires : tie.Need-settle-requires
-settle-requires c κs =
-    let told = c .before .before .before .before in
-    let call = told .before .before .before .before .before .before .before .before .before in
-    let start = call .before .before .before .before .before .before .before .before .before .before in
-    let A = start .args in
-    let D = call .descend in
-    let v = D .last .1 .1 .1 .1 .1 .1 .0 in
-    let u = D .last .1 .1 .1 .1 .1 .1 .1 .0 in
-    let e = D .last .1 .1 .1 .1 .1 .1 .1 .1 .0 in
-    settling (A .c) (A .w) (A .n) (A .sheet .now) (A .r) (A .ceiling) (A .word .now) (A .out .now) (A .vals .now) (A .us .now) (A .eqs .now) (start .pre .0) (start .pre .1 .0) (start .pre .1 .1) (start .pre .1 .2) (start .pre .1 .3) (start .pre .1 .4) (start .pre .1 .5) _ _ (D .result) v u e (told .before .g2 .given .1) (D .ensures) (D .kept .1 .1 .1 .1 .1 .1 .0) (D .kept .1 .1 .1 .1 .1 .1 .1 .0) (D .kept .1 .1 .1 .1 .1 .1 .1 .1 .0)
+slice-aggregate-conclude : tie.Need-slice-aggregate-conclude
+slice-aggregate-conclude c =
+    let A = c .before .before .before .before .before .before .before .before .before .before .before .before .before .before .before .before .before .before .before .before .before .before .before .before .args in
+    let P = c .before .before .before .before .before .before .before .before .before .before .before .before .before .before .before .before .before .before .before .before .before .before .before .before .pre in
+    let Z = c .before .before .before .before .before .before .before .before .before .before .before .before .before .before .before .before .place in
+    let D = c .before .before .before .before .before .before .before .before .before .before .solve in
+    sym (length-take-le _ _ (in-room (A .c) (A .w) (A .n) (A .sheet .now) (A .r) (A .ceiling) (A .word .now) (A .out .now) (Z .last .1 .0) (A .us .now) (A .eqs .now)
+    (P .0) (P .1 .0) (P .1 .1) (P .1 .2) (Z .kept .1 .0 ∙ ap length (P .1 .3) ∙ length-replicate _ 0) (P .1 .4) (P .1 .5)
+    (D .result) (D .last .1 .1 .1 .0) (D .last .1 .1 .1 .1 .0) (D .last .1 .1 .1 .1 .1 .0) (D .ensures) _ _ _ (c .before .before .g2 .given .1)))
 
 same-length : tie.Need-same-length
-same-length c = c .before .before .before .before .before .before .before .before .descend .kept .1 .1 .1 .1 .1 .1 .0
+same-length c = c .before .before .before .before .before .before .before .before .solve .kept .1 .1 .1 .0 ∙ c .before .before .before .before .before .before .before .before .before .before .before .before .before .before .place .kept .1 .0
 
 same-length-2 : tie.Need-same-length-2
-same-length-2 c = c .before .before .before .before .before .before .before .before .descend .kept .1 .1 .1 .1 .1 .1 .1 .0
+same-length-2 c = c .before .before .before .before .before .before .before .before .solve .kept .1 .1 .1 .1 .0
 
 same-length-3 : tie.Need-same-length-3
-same-length-3 c = c .before .before .before .before .before .before .before .before .descend .kept .1 .1 .1 .1 .1 .1 .1 .1 .0
+same-length-3 c = c .before .before .before .before .before .before .before .before .solve .kept .1 .1 .1 .1 .1 .0
 
 returns : tie.Need-returns
 returns c =
-    let call = c .before .before .before .before .before .before .before .before in
-    let start = call .before .before .before .before .before .before .before .before .before .before in
-    let A = start .args in
-    let D = call .descend in
-    let v = D .last .1 .1 .1 .1 .1 .1 .0 in
-    let u = D .last .1 .1 .1 .1 .1 .1 .1 .0 in
-    let e = D .last .1 .1 .1 .1 .1 .1 .1 .1 .0 in
-    never-misfit (A .c) (A .w) (A .n) (A .sheet .now) (A .r) (A .ceiling) (A .word .now) (A .out .now) (A .vals .now) (A .us .now) (A .eqs .now) (start .pre .0) (start .pre .1 .0) (start .pre .1 .1) (start .pre .1 .2) (start .pre .1 .3) (start .pre .1 .4) (start .pre .1 .5) (D .result) v u e (c .enum-told .given .1) (D .ensures)
+    let A = c .before .before .before .before .before .before .before .before .before .before .before .before .before .before .before .before .before .before .before .before .before .before .args in
+    let P = c .before .before .before .before .before .before .before .before .before .before .before .before .before .before .before .before .before .before .before .before .before .before .pre in
+    let Z = c .before .before .before .before .before .before .before .before .before .before .before .before .before .before .place in
+    let D = c .before .before .before .before .before .before .before .before .solve in
+    never-misfit (A .c) (A .w) (A .n) (A .sheet .now) (A .r) (A .ceiling) (A .word .now) (A .out .now) (Z .last .1 .0) (A .us .now) (A .eqs .now)
+    (P .0) (P .1 .0) (P .1 .1) (P .1 .2) (Z .kept .1 .0 ∙ ap length (P .1 .3) ∙ length-replicate _ 0) (P .1 .4) (P .1 .5)
+    (D .result) (D .last .1 .1 .1 .0) (D .last .1 .1 .1 .1 .0) (D .last .1 .1 .1 .1 .1 .0) (D .ensures) (c .enum-told .given .1)
 
 same-length-4 : tie.Need-same-length-4
-same-length-4 c = c .before .before .before .before .before .before .before .before .before .descend .kept .1 .1 .1 .1 .1 .1 .0
+same-length-4 c = c .before .before .before .before .before .before .before .before .before .solve .kept .1 .1 .1 .0 ∙ c .before .before .before .before .before .before .before .before .before .before .before .before .before .before .before .place .kept .1 .0
 
 same-length-5 : tie.Need-same-length-5
-same-length-5 c = c .before .before .before .before .before .before .before .before .before .descend .kept .1 .1 .1 .1 .1 .1 .1 .0
+same-length-5 c = c .before .before .before .before .before .before .before .before .before .solve .kept .1 .1 .1 .1 .0
 
 same-length-6 : tie.Need-same-length-6
-same-length-6 c = c .before .before .before .before .before .before .before .before .before .descend .kept .1 .1 .1 .1 .1 .1 .1 .1 .0
+same-length-6 c = c .before .before .before .before .before .before .before .before .before .solve .kept .1 .1 .1 .1 .1 .0
 
 returns-2 : tie.Need-returns-2
 returns-2 c =
-    let call = c .before .before .before .before .before .before .before .before .before in
-    let start = call .before .before .before .before .before .before .before .before .before .before in
-    let A = start .args in
-    let D = call .descend in
-    let v = D .last .1 .1 .1 .1 .1 .1 .0 in
-    let u = D .last .1 .1 .1 .1 .1 .1 .1 .0 in
-    let e = D .last .1 .1 .1 .1 .1 .1 .1 .1 .0 in
-    too-many (A .c) (A .w) (A .n) (A .sheet .now) (A .r) (A .ceiling) (A .word .now) (A .out .now) (A .vals .now) (A .us .now) (A .eqs .now) (start .pre .0) (start .pre .1 .0) (start .pre .1 .1) (start .pre .1 .2) (start .pre .1 .3) (start .pre .1 .4) (start .pre .1 .5) _ (D .result) v u e (c .before .g .given .1) (D .ensures)
+    let A = c .before .before .before .before .before .before .before .before .before .before .before .before .before .before .before .before .before .before .before .before .before .before .before .args in
+    let P = c .before .before .before .before .before .before .before .before .before .before .before .before .before .before .before .before .before .before .before .before .before .before .before .pre in
+    let Z = c .before .before .before .before .before .before .before .before .before .before .before .before .before .before .before .place in
+    let D = c .before .before .before .before .before .before .before .before .before .solve in
+    too-many (A .c) (A .w) (A .n) (A .sheet .now) (A .r) (A .ceiling) (A .word .now) (A .out .now) (Z .last .1 .0) (A .us .now) (A .eqs .now)
+    (P .0) (P .1 .0) (P .1 .1) (P .1 .2) (Z .kept .1 .0 ∙ ap length (P .1 .3) ∙ length-replicate _ 0) (P .1 .4) (P .1 .5)
+    (D .result) (D .last .1 .1 .1 .0) (D .last .1 .1 .1 .1 .0) (D .last .1 .1 .1 .1 .1 .0) (D .ensures) _ (c .before .g .given .1)
 
 same-length-7 : tie.Need-same-length-7
-same-length-7 c = c .before .before .before .before .before .before .settle .kept .1 .1 .1 .1 .1 .1 .1 .1 .1 .0 ∙ c .before .before .before .before .before .before .before .before .before .before .before .before .before .before .before .before .before .before .before .before .descend .kept .1 .1 .1 .1 .1 .1 .0
+same-length-7 c = c .before .before .before .before .before .before .before .before .before .before .before .before .before .before .before .solve .kept .1 .1 .1 .0 ∙ c .before .before .before .before .before .before .before .before .before .before .before .before .before .before .before .before .before .before .before .before .before .place .kept .1 .0
 
 same-length-8 : tie.Need-same-length-8
-same-length-8 c = c .before .before .before .before .before .before .before .before .before .before .before .before .before .before .before .before .before .before .before .before .descend .kept .1 .1 .1 .1 .1 .1 .1 .0
+same-length-8 c = c .before .before .before .before .before .before .before .before .before .before .before .before .before .before .before .solve .kept .1 .1 .1 .1 .0
 
 same-length-9 : tie.Need-same-length-9
-same-length-9 c = c .before .before .before .before .before .before .settle .kept .1 .1 .1 .1 .1 .1 .1 .1 .0 ∙ c .before .before .before .before .before .before .before .before .before .before .before .before .before .before .before .before .before .before .before .before .descend .kept .1 .1 .1 .1 .1 .1 .1 .1 .0
+same-length-9 c = c .before .before .before .before .before .before .before .before .before .before .before .before .before .before .before .solve .kept .1 .1 .1 .1 .1 .0
 
 same-length-10 : tie.Need-same-length-10
-same-length-10 c = c .before .before .before .before .before .before .settle .kept .1 .1 .1 .1 .1 .1 .1 .1 .1 .1 .0
+same-length-10 c = c .before .before .conclude .kept .1 .1 .1 .1 .1 .1 .1 .0
 
 returns-3 : tie.Need-returns-3
 returns-3 c =
-    let settled = c .before .before .before .before .before .before in
-    let told = settled .before .before .before .before .before in
-    let call = told .before .before .before .before .before .before .before .before .before in
-    let start = call .before .before .before .before .before .before .before .before .before .before in
-    let A = start .args in
-    let D = call .descend in
-    let v = D .last .1 .1 .1 .1 .1 .1 .0 in
-    let u = D .last .1 .1 .1 .1 .1 .1 .1 .0 in
-    let e = D .last .1 .1 .1 .1 .1 .1 .1 .1 .0 in
-    decided (A .c) (A .w) (A .n) (A .sheet .now) (A .r) (A .ceiling) (A .word .now) (A .out .now) (A .vals .now) (A .us .now) (A .eqs .now) (start .pre .0) (start .pre .1 .0) (start .pre .1 .1) (start .pre .1 .2) (start .pre .1 .3) (start .pre .1 .4) (start .pre .1 .5) _ _ (D .result) v u e (told .before .g2 .given .1) (D .ensures) (D .kept .1 .1 .1 .1 .1 .1 .0) (D .kept .1 .1 .1 .1 .1 .1 .1 .0) (D .kept .1 .1 .1 .1 .1 .1 .1 .1 .0) _ (settled .settle .ensures)
+    let A = c .before .before .before .before .before .before .before .before .before .before .before .before .before .before .before .before .before .before .before .before .before .before .before .before .before .before .before .before .before .args in
+    let P = c .before .before .before .before .before .before .before .before .before .before .before .before .before .before .before .before .before .before .before .before .before .before .before .before .before .before .before .before .before .pre in
+    let Z = c .before .before .before .before .before .before .before .before .before .before .before .before .before .before .before .before .before .before .before .before .before .place in
+    let D = c .before .before .before .before .before .before .before .before .before .before .before .before .before .before .before .solve in
+    decided (A .c) (A .w) (A .n) (A .sheet .now) (A .r) (A .ceiling) (A .word .now) (A .out .now) (Z .last .1 .0) (A .us .now) (A .eqs .now)
+    (P .0) (P .1 .0) (P .1 .1) (P .1 .2) (Z .kept .1 .0 ∙ ap length (P .1 .3) ∙ length-replicate _ 0) (P .1 .4) (P .1 .5)
+    (D .result) (D .last .1 .1 .1 .0) (D .last .1 .1 .1 .1 .0) (D .last .1 .1 .1 .1 .1 .0) (D .ensures) _ _ _ (c .before .before .before .before .before .before .before .g2 .given .1) (Z .ensures) _ (c .before .before .conclude .ensures)
 
 pub answer-spec : {M : Type 1} → statement M
 answer-spec =
     tie.close
     (tie.spec
-    descend-requires
-    enum-told
-    enum-known-g
-    enum-known-g-2
-    settle-requires
-    same-length
-    same-length-2
-    same-length-3
-    returns
-    same-length-4
-    same-length-5
-    same-length-6
-    returns-2
-    same-length-7
-    same-length-8
-    same-length-9
-    same-length-10
-    returns-3)
+    place-requires (λ c κs. tt) enum-told (λ c. search needs) (λ c. search needs) mul-used slice-reshare-prefix-conclude slice-aggregate-conclude
+    (λ c κs. tt) same-length same-length-2 same-length-3 returns same-length-4 same-length-5 same-length-6 returns-2 same-length-7 same-length-8
+    same-length-9 same-length-10 returns-3)

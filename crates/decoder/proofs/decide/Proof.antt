@@ -1,12 +1,9 @@
 use native.Mathlib.Omega.{arith}
 use borrow.Author.Needs.{needs}
 use Rattle.meaning.specs.Limits.{largestCeiling}
-use Rattle.decoder.proofs.Deciding.{over, formed-at, decided-at, row-fits, within}
+use Rattle.decoder.proofs.Deciding.{over, formed-at, decided-at, row-fits, few-words, within}
 use Rattle.decoder.proofs.decide.Statement.{statement}
 use Rattle.decoder.proofs.decide.Tie as tie
-
-unknowns-requires : tie.Need-unknowns-requires
-unknowns-requires c κs = search needs
 
 returns : tie.Need-returns
 returns c =
@@ -22,8 +19,9 @@ answer-requires c κs =
     let test = c .before in
     let count = test .before in
     let F = count .before .before .before .before .pre in
-    let (a, b, d) = row-fits _ _ _ _ _ _ F _ (count .unknowns .ensures) (test .if1 .left) in
-    (formed-at _ _ _ _ _ _ F _ (count .unknowns .ensures) (test .if1 .left), (d, b, within _ _ _ _ _ _ F _ (count .unknowns .ensures) (test .if1 .left)))
+    let fit = row-fits _ _ _ _ _ _ F _ (count .unknowns .ensures) (test .if1 .left) in
+    let wide = few-words _ _ _ _ _ _ F _ (count .unknowns .ensures) (test .if1 .left) in
+    (formed-at _ _ _ _ _ _ F _ (count .unknowns .ensures) (test .if1 .left), (fit, wide, within _ _ _ _ _ _ F _ (count .unknowns .ensures) (test .if1 .left)))
 
 same-length : tie.Need-same-length
 same-length c = c .before .before .answer .kept .1 .1 .1 .1 .1 .1 .0
@@ -36,12 +34,4 @@ returns-2 c =
     decided-at _ _ _ _ _ _ (count .before .before .before .before .pre) _ (count .unknowns .ensures) (test .if1 .left) _ (call .answer .ensures)
 
 pub decide-spec : {M : Type 1} → statement M
-decide-spec =
-    tie.close
-    (tie.spec
-    unknowns-requires
-    returns
-    add-answer
-    answer-requires
-    same-length
-    returns-2)
+decide-spec = tie.close (tie.spec (λ c κs. search needs) returns add-answer answer-requires same-length returns-2)

@@ -4,12 +4,6 @@ use Rattle.decoder.proofs.Deciding.{decode-refused, decode-passed, deco
 use Rattle.decoder.proofs.decode.Statement.{statement}
 use Rattle.decoder.proofs.decode.Tie as tie
 
-fault-requires : tie.Need-fault-requires
-fault-requires c κs = search needs
-
-is-done-requires : tie.Need-is-done-requires
-is-done-requires c κs = search needs
-
 returns : tie.Need-returns
 returns c = decode-refused _ _ _ _ _ _ _ (c .before .before .fault .ensures) _ (c .before .is-done .ensures) (not-true _ (c .if1 .taken))
 
@@ -18,9 +12,6 @@ decide-requires c κs =
     let test = c .before in
     decode-passed _ _ _ _ _ _ _ (test .before .before .fault .ensures) _ (test .before .is-done .ensures) (not-false _ (test .if1 .left))
 
-same-length : tie.Need-same-length
-same-length c = search needs
-
 returns-2 : tie.Need-returns-2
 returns-2 c =
     let done = c .before .before in
@@ -28,12 +19,4 @@ returns-2 c =
     decode-decided _ _ _ _ _ _ _ (test .before .before .fault .ensures) _ (test .before .is-done .ensures) (not-false _ (test .if1 .left)) _ (done .decide .ensures)
 
 pub decode-spec : {M : Type 1} → statement M
-decode-spec =
-    tie.close
-    (tie.spec
-    fault-requires
-    is-done-requires
-    returns
-    decide-requires
-    same-length
-    returns-2)
+decode-spec = tie.close (tie.spec (λ c κs. search needs) (λ c κs. search needs) returns decide-requires (λ c. search needs) returns-2)

@@ -6,14 +6,8 @@ use Rattle.descent.proofs.Promise.{misfit, over, allowed, found-all}
 use Rattle.descent.proofs.descend.Statement.{statement}
 use Rattle.descent.proofs.descend.Tie as tie
 
-fits-requires : tie.Need-fits-requires
-fits-requires c κs = tt
-
 returns : tie.Need-returns
 returns c = misfit _ _ _ _ _ _ _ _ _ (c .before .fits2 .ensures) (c .if1 .taken)
-
-unknowns-requires : tie.Need-unknowns-requires
-unknowns-requires c κs = tt
 
 returns-2 : tie.Need-returns-2
 returns-2 c = over _ _ _ _ _ _ _ _ _ (c .before .before .before .fits2 .ensures) (c .before .before .if1 .left) _ (c .before .unknowns .ensures) (c .if2 .taken)
@@ -53,14 +47,4 @@ pub descend-spec : {M : Type 1} → statement M
 descend-spec =
     tie.close
     (tie.spec
-    fits-requires
-    returns
-    unknowns-requires
-    returns-2
-    array-borrow-prefix-marks
-    slice-aggregate-run
-    run-requires
-    same-length
-    same-length-2
-    same-length-3
-    returns-3)
+    (λ c κs. tt) returns (λ c κs. tt) returns-2 array-borrow-prefix-marks slice-aggregate-run run-requires same-length same-length-2 same-length-3 returns-3)

@@ -5,9 +5,6 @@ use native.Mathlib.Omega.{arith}
 use Rattle.lanes.proofs.conclude.Statement.{statement}
 use Rattle.lanes.proofs.conclude.Tie as tie
 
-fits-requires : tie.Need-fits-requires
-fits-requires c κs = search needs
-
 returns : tie.Need-returns
 returns c = concluding-misfit _ _ _ _ _ _ _ _ _ (c .before .fits2 .ensures) (not-true _ (c .if1 .taken))
 
@@ -16,11 +13,8 @@ read-requires c κs =
     let f = fit _ _ _ _ _ _ _ _ (c .before .before .fits2 .ensures) (not-false _ (c .before .if1 .left)) in
     ((f .wide, f .records, f .roomy), (f .pivots, f .equations))
 
-same-length : tie.Need-same-length
-same-length c = search needs
-
 returns-2 : tie.Need-returns-2
 returns-2 c = concluding-fit _ _ _ _ _ _ _ _ _ (c .before .before .before .before .before .fits2 .ensures) (not-false _ (c .before .before .before .before .if1 .left)) _ (c .before .before .read .ensures)
 
 pub conclude-spec : {M : Type 1} → statement M
-conclude-spec = tie.close (tie.spec fits-requires returns read-requires same-length returns-2)
+conclude-spec = tie.close (tie.spec (λ c κs. search needs) returns read-requires (λ c. search needs) returns-2)

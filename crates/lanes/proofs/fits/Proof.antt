@@ -12,24 +12,14 @@ returns-2 c = narrow _ _ _ _ _ _ _ (c .if2 .taken)
 returns-3 : tie.Need-returns-3
 returns-3 c = rank-high _ _ _ _ _ _ _ (c .before .before .if1 .left) (c .before .if2 .left) (c .if3 .taken)
 
-rem-if4 : tie.Need-rem-if4
-rem-if4 c = search needs
-
 returns-4 : tie.Need-returns-4
 returns-4 c = odd-eqs _ _ _ _ _ _ _ (c .before .before .before .if1 .left) (c .before .before .if2 .left) (c .before .if3 .left) (c .if4 .taken)
 
-rem-if5 : tie.Need-rem-if5
-rem-if5 c = search needs
-
 returns-5 : tie.Need-returns-5
 returns-5 c = odd-vals _ _ _ _ _ _ _ (c .before .before .before .before .if1 .left) (c .before .before .before .if2 .left) (c .before .before .if3 .left) (c .before .if4 .left) (c .if5 .taken)
-
-div-result : tie.Need-div-result
-div-result c = search needs
 
 returns-6 : tie.Need-returns-6
 returns-6 c = last-test _ _ _ _ _ _ _ (c .before .before .before .before .if1 .left) (c .before .before .before .if2 .left) (c .before .before .if3 .left) (c .before .if4 .left) (c .if5 .left)
 
 pub fits-spec : {M : Type 1} → statement M
-fits-spec =
-    tie.close (tie.spec returns returns-2 returns-3 rem-if4 returns-4 rem-if5 returns-5 div-result returns-6)
+fits-spec = tie.close (tie.spec returns returns-2 returns-3 (λ c. search needs) returns-4 (λ c. search needs) returns-5 (λ c. search needs) returns-6)

@@ -13,19 +13,10 @@ returns c = let A = c .before .before .before .before .before .args in unsound (
 write-requires : tie.Need-write-requires
 write-requires c κs = c .before .before .before .before .before .before .pre .0
 
-sub-d : tie.Need-sub-d
-sub-d c = search needs
-
-same-length : tie.Need-same-length
-same-length c = search needs
-
 returns-2 : tie.Need-returns-2
 returns-2 c =
     let A = c .before .before .before .before .before .before .before .before .before .before .args in
     unique-read (A .c) (A .w) (A .eqs .now) (A .vals .now) (A .g) (A .m) (A .rank) (A .out .now) _ (c .before .before .before .before .before .before .first .ensures) (c .before .before .before .before .before .if1 .left) _ (c .before .before .before .write .ensures) (c .if2 .taken)
-
-same-length-2 : tie.Need-same-length-2
-same-length-2 c = search needs
 
 returns-3 : tie.Need-returns-3
 returns-3 c =
@@ -33,14 +24,4 @@ returns-3 c =
     ambiguous-read (A .c) (A .w) (A .eqs .now) (A .vals .now) (A .g) (A .m) (A .rank) (A .out .now) _ (c .before .before .before .before .before .before .first .ensures) (c .before .before .before .before .before .if1 .left) _ (c .before .before .before .write .ensures) (c .if2 .left)
 
 pub read-spec : {M : Type 1} → statement M
-read-spec =
-    tie.close
-    (tie.spec
-    first-requires
-    returns
-    write-requires
-    sub-d
-    same-length
-    returns-2
-    same-length-2
-    returns-3)
+read-spec = tie.close (tie.spec first-requires returns write-requires (λ c. search needs) (λ c. search needs) returns-2 (λ c. search needs) returns-3)

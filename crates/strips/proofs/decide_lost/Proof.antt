@@ -7,20 +7,11 @@ use borrow.Author.Needs.{needs}
 use Rattle.strips.proofs.decide_lost.Statement.{statement}
 use Rattle.strips.proofs.decide_lost.Tie as tie
 
-erase-requires : tie.Need-erase-requires
-erase-requires c κs = search needs
-
 decide-requires : tie.Need-decide-requires
 decide-requires c κs =
     let S = c .before .before .before .before .before .before .before .before .before .before .before in
     let A = S .args in
     subst (λ (l : List ℕ). Formed (A .n) (A .sheet .now) (A .r) (A .ceiling) (length (A .strip .now)) (length l) (length (A .out .now))) (sym (c .before .before .before .before .erase .ensures)) (S .pre .0)
-
-same-length : tie.Need-same-length
-same-length c = search needs
-
-same-length-2 : tie.Need-same-length-2
-same-length-2 c = search needs
 
 returns : tie.Need-returns
 returns c =
@@ -28,4 +19,4 @@ returns c =
     c .before .before .decide .ensures ∙ ap (λ (l : List ℕ). repairDeciding (A .n) (A .sheet .now) (A .r) (A .ceiling) (A .strip .now) l (A .out .now)) (c .before .before .before .before .before .before .before .erase .ensures)
 
 pub decide-lost-spec : {M : Type 1} → statement M
-decide-lost-spec = tie.close (tie.spec erase-requires decide-requires same-length same-length-2 returns)
+decide-lost-spec = tie.close (tie.spec (λ c κs. search needs) decide-requires (λ c. search needs) (λ c. search needs) returns)

@@ -6,30 +6,12 @@ use native.Mathlib.Omega.{arith}
 use Rattle.strips.proofs.fault.Statement.{statement}
 use Rattle.strips.proofs.fault.Tie as tie
 
-check-sheet-requires : tie.Need-check-sheet-requires
-check-sheet-requires c κs = search needs
-
-is-done-requires : tie.Need-is-done-requires
-is-done-requires c κs = search needs
-
 returns : tie.Need-returns
 returns c = fault-sheet _ _ _ _ _ _ _ _ (c .before .before .check-sheet .ensures) _ (c .before .is-done .ensures) (not-true _ (c .if1 .taken))
-
-mul-if2 : tie.Need-mul-if2
-mul-if2 c = search needs
 
 returns-2 : tie.Need-returns-2
 unfolding recordBytes maskBytes
 returns-2 c = fault-strip _ _ _ _ _ _ _ _ (c .before .before .before .check-sheet .ensures) _ (c .before .before .is-done .ensures) (not-false _ (c .before .if1 .left)) (c .if2 .taken)
-
-mul-check-word : tie.Need-mul-check-word
-mul-check-word c = search needs
-
-check-word-requires : tie.Need-check-word-requires
-check-word-requires c κs = search needs
-
-is-done-requires-2 : tie.Need-is-done-requires-2
-is-done-requires-2 c κs = search needs
 
 returns-3 : tie.Need-returns-3
 unfolding recordBytes maskBytes
@@ -47,14 +29,5 @@ pub fault-spec : {M : Type 1} → statement M
 fault-spec =
     tie.close
     (tie.spec
-    check-sheet-requires
-    is-done-requires
-    returns
-    mul-if2
-    returns-2
-    mul-check-word
-    check-word-requires
-    is-done-requires-2
-    returns-3
-    returns-4
-    returns-5)
+    (λ c κs. search needs) (λ c κs. search needs) returns (λ c. search needs) returns-2 (λ c. search needs) (λ c κs. search needs) (λ c κs. search needs)
+    returns-3 returns-4 returns-5)

@@ -7,12 +7,6 @@ use borrow.Author.Needs.{needs}
 use Rattle.strips.proofs.repair.Statement.{statement}
 use Rattle.strips.proofs.repair.Tie as tie
 
-fault-requires : tie.Need-fault-requires
-fault-requires c κs = search needs
-
-is-done-requires : tie.Need-is-done-requires
-is-done-requires c κs = search needs
-
 returns : tie.Need-returns
 returns c = let A = c .before .before .before .before .before .before .before .args in repair-refused (A .n) (A .sheet .now) (A .r) (A .ceiling) (A .strip .now) (A .lost .now) (A .out .now) _ (c .before .before .fault .ensures) _ (c .before .is-done .ensures) (not-true _ (c .if1 .taken))
 
@@ -31,9 +25,6 @@ decide-lost-requires c κs =
     let f = repair-passed (A .n) (A .sheet .now) (A .r) (A .ceiling) (A .strip .now) (A .lost .now) (A .out .now) _ (c .before .before .before .before .fault .ensures) _ (c .before .before .before .is-done .ensures) (not-false _ (c .before .before .if1 .left)) in
     (f, length-take-le _ _ (few-records _ _ _ _ _ (A .lost .now) _ f))
 
-same-length : tie.Need-same-length
-same-length c = search needs
-
 returns-2 : tie.Need-returns-2
 returns-2 c = let A = c .before .before .before .before .before .before .before .before .before .before .before .before .before .args in repair-decided (A .n) (A .sheet .now) (A .r) (A .ceiling) (A .strip .now) (A .lost .now) (A .out .now) _ (c .before .before .before .before .before .before .before .before .fault .ensures) _ (c .before .before .before .before .before .before .before .is-done .ensures) (not-false _ (c .before .before .before .before .before .before .if1 .left)) _ (c .before .before .before .decide-lost .ensures)
 
@@ -41,11 +32,5 @@ pub repair-spec : {M : Type 1} → statement M
 repair-spec =
     tie.close
     (tie.spec
-    fault-requires
-    is-done-requires
-    returns
-    array-borrow-prefix-word
-    slice-aggregate-decide-lost
-    decide-lost-requires
-    same-length
+    (λ c κs. search needs) (λ c κs. search needs) returns array-borrow-prefix-word slice-aggregate-decide-lost decide-lost-requires (λ c. search needs)
     returns-2)

@@ -1,16 +1,15 @@
 use native.Mathlib.Omega.{arith}
 use Rattle.meaning.specs.Limits.{largestN, largestCeiling}
-use Rattle.descent.specs.Descending.{widest}
-use Rattle.decoder.specs.Rooms.{fewWords, someWords, manyWords, mostWords}
+use Rattle.decoder.specs.Rooms.{mostWide, fewWords, someWords, manyWords, mostWords}
 use Rattle.decoder.proofs.rooms.answer.Statement.{statement}
 use Rattle.decoder.proofs.rooms.answer.Tie as tie
 
 add-words : tie.Need-add-words
-unfolding widest
+unfolding mostWide largestCeiling
 add-words c = let S = c .before .before .before in omega (arith, S .pre .1 .1)
 
 mul-words : tie.Need-mul-words
-unfolding mostWords largestN largestCeiling
+unfolding mostWords mostWide largestN largestCeiling
 mul-words c = let S = c .before .before .before in omega (arith, S .pre .1 .2)
 
 few-requires : tie.Need-few-requires

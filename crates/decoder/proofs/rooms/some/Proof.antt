@@ -1,34 +1,25 @@
+use mathlib.Core.Path.{refl}
+use Prim.Native.Nat.{_+_}
+use lib.ListN.{length}
 use borrow.Author.Needs.{needs}
-use Rattle.decoder.specs.Rooms.{someWords}
+use Rattle.meaning.specs.Limits.{largestCeiling}
+use Rattle.system.specs.Solving.{longestCheck}
+use Rattle.decoder.specs.Rooms.{someWords, mostWide}
+use Rattle.decoder.proofs.Deciding.{wide-fits, check-fits}
 use Rattle.decoder.proofs.rooms.some.Statement.{statement}
 use Rattle.decoder.proofs.rooms.some.Tie as tie
 
-slice-aggregate-within : tie.Need-slice-aggregate-within
-slice-aggregate-within c = search needs
-
-slice-aggregate-within-2 : tie.Need-slice-aggregate-within-2
-slice-aggregate-within-2 c = search needs
-
-slice-aggregate-within-3 : tie.Need-slice-aggregate-within-3
-slice-aggregate-within-3 c = search needs
-
 within-requires : tie.Need-within-requires
-unfolding someWords
-within-requires c κs = let (f, p) = c .before .before .before .before .before .before .before .pre in (f, (p .0, p .1, p .2, p .2, p .2))
-
-same-length : tie.Need-same-length
-same-length c = search needs
+unfolding someWords mostWide longestCheck largestCeiling
+within-requires c κs =
+    let S = c .before .before .before .before .before .before .before in
+    let A = S .args in
+    let (f, p) = S .pre in
+    let q = check-fits (length (A .word .now)) (A .r) (A .c + 1) _ (f .check) (p .1) (p .2) in
+    (f, (p .0, wide-fits _ (p .1), p .2, p .2, q, refl))
 
 returns : tie.Need-returns
 returns c = c .before .before .before .before .before .within .ensures
 
 pub some-spec : {M : Type 1} → statement M
-some-spec =
-    tie.close
-    (tie.spec
-    slice-aggregate-within
-    slice-aggregate-within-2
-    slice-aggregate-within-3
-    within-requires
-    same-length
-    returns)
+some-spec = tie.close (tie.spec (λ c. search needs) (λ c. search needs) (λ c. search needs) within-requires (λ c. search needs) returns)

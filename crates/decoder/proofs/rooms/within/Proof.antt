@@ -1,21 +1,36 @@
 use Prim.Native.Nat.{_+_, _*_, zero-le}
+use mathlib.Core.Path.{ap, _∙_}
 use native.Mathlib.Omega.{arith}
-use lib.ListN.{length}
+use lib.ListN.{length, replicate}
 use Rattle.descent.specs.Descending.{widest}
+use Rattle.system.specs.Solving.{longestCheck}
+use Rattle.system.proofs.Testing.{length-longest}
 use Rattle.decoder.proofs.Deciding.{rows-long, rows-back}
+use Rattle.decoder.proofs.Placing.{front-zeros}
 use Rattle.decoder.proofs.rooms.within.Statement.{statement}
 use Rattle.decoder.proofs.rooms.within.Tie as tie
 
 add-k : tie.Need-add-k
 unfolding widest
-add-k c = let S = c .before .before .before .before .before .before in omega (arith, S .pre .1 .1)
+add-k c = omega (arith, c .before .before .before .before .before .before .pre .1 .1)
 
 mul-k : tie.Need-mul-k
-mul-k c = let S = c .before .before .before .before .before .before in omega (arith, S .pre .1 .2)
+mul-k c = omega (arith, c .before .before .before .before .before .before .pre .1 .2)
+
+add-q : tie.Need-add-q
+unfolding longestCheck
+add-q c = omega (arith, length-longest (c .before .before .before .before .before .before .pre .0 .check))
+
+add-q-2 : tie.Need-add-q-2
+unfolding widest
+add-q-2 c = omega (arith, c .before .before .before .before .before .before .pre .1 .1)
+
+mul-q : tie.Need-mul-q
+mul-q c = omega (arith, c .before .before .before .before .before .before .pre .1 .4)
 
 add-answer : tie.Need-add-answer
 unfolding widest
-add-answer c = let S = c .before .before .before .before .before .before in omega (arith, S .pre .1 .1)
+add-answer c = omega (arith, c .before .before .before .before .before .before .pre .1 .1)
 
 sub-answer : tie.Need-sub-answer
 sub-answer c = zero-le
@@ -46,30 +61,31 @@ part-answer-end-3 c = c .before .before .before .before .before .before .before 
 
 answer-requires : tie.Need-answer-requires
 answer-requires c κs =
-    let S = c .before .before .before .before .before .before .before .before .before .before in
-    let A = S .args in
-    let p = S .pre .1 in
-    let long = rows-long (A .n) (A .c) (A .word .now) in
-    let e = S .pre .0 .symbols in
-    (S .pre .0, (omega arith, p .1, p .0, long (A .vals .now) e (p .2), long (A .us .now) e (p .3), long (A .eqs .now) e (p .4)))
+    let A = c .before .before .before .before .before .before .before .before .before .before .args in
+    let P = c .before .before .before .before .before .before .before .before .before .before .pre in
+    let p = P .1 in
+    let e = P .0 .symbols in
+    let k = length (A .word .now) in
+    let w = A .c + 1 in
+    (P .0, (omega arith, p .1, p .0, front-zeros (k * w) (A .vals .now) (p .2) (p .5) ∙ ap (λ i. replicate (i * w) 0) e, rows-long k _ w (A .us .now) e (p .3), rows-long (k + A .r) _ w (A .eqs .now) (ap (λ i. i + A .r) e) (p .4)))
 
 same-length : tie.Need-same-length
 same-length c =
-    let call = c .before .before .before .before .before .before .before .before in
-    let A = call .before .before .before .before .before .before .before .before .before .before .before .args in
-    rows-back (length (A .word .now) * (A .c + 1)) (A .vals .now) (call .answer .last .1 .1 .1 .1 .1 .1 .1 .0) (call .answer .kept .1 .1 .1 .1 .1 .1 .1 .0)
+    let A = c .before .before .before .before .before .before .before .before .before .before .before .before .before .before .before .before .before .before .before .args in
+    let a = c .before .before .before .before .before .before .before .before .answer in
+    rows-back (length (A .word .now) * (A .c + 1)) (A .vals .now) (a .last .1 .1 .1 .1 .1 .1 .1 .0) (a .kept .1 .1 .1 .1 .1 .1 .1 .0)
 
 same-length-2 : tie.Need-same-length-2
 same-length-2 c =
-    let call = c .before .before .before .before .before .before .before .before in
-    let A = call .before .before .before .before .before .before .before .before .before .before .before .args in
-    rows-back (length (A .word .now) * (A .c + 1)) (A .us .now) (call .answer .last .1 .1 .1 .1 .1 .1 .1 .1 .0) (call .answer .kept .1 .1 .1 .1 .1 .1 .1 .1 .0)
+    let A = c .before .before .before .before .before .before .before .before .before .before .before .before .before .before .before .before .before .before .before .args in
+    let a = c .before .before .before .before .before .before .before .before .answer in
+    rows-back (length (A .word .now) * (A .c + 1)) (A .us .now) (a .last .1 .1 .1 .1 .1 .1 .1 .1 .0) (a .kept .1 .1 .1 .1 .1 .1 .1 .1 .0)
 
 same-length-3 : tie.Need-same-length-3
 same-length-3 c =
-    let call = c .before .before .before .before .before .before .before .before in
-    let A = call .before .before .before .before .before .before .before .before .before .before .before .args in
-    rows-back (length (A .word .now) * (A .c + 1)) (A .eqs .now) (call .answer .last .1 .1 .1 .1 .1 .1 .1 .1 .1 .0) (call .answer .kept .1 .1 .1 .1 .1 .1 .1 .1 .1 .0)
+    let A = c .before .before .before .before .before .before .before .before .before .before .before .before .before .before .before .before .before .before .before .args in
+    let a = c .before .before .before .before .before .before .before .before .answer in
+    rows-back ((length (A .word .now) + A .r) * (A .c + 1)) (A .eqs .now) (a .last .1 .1 .1 .1 .1 .1 .1 .1 .1 .0) (a .kept .1 .1 .1 .1 .1 .1 .1 .1 .1 .0)
 
 same-length-4 : tie.Need-same-length-4
 same-length-4 c = c .before .before .before .before .before .before .before .before .answer .kept .1 .1 .1 .1 .1 .1 .1 .1 .1 .1 .0
@@ -83,6 +99,9 @@ within-spec =
     (tie.spec
     add-k
     mul-k
+    add-q
+    add-q-2
+    mul-q
     add-answer
     sub-answer
     part-answer-start

@@ -26,9 +26,6 @@ mul-copy-within-2 c =
     let A = c .before .before .before .before .before .before .before .args in
     omega (arith, row-fit (A .j) (A .h + A .h) (A .w) (omega arith))
 
-copy-within-requires : tie.Need-copy-within-requires
-copy-within-requires c κs = tt
-
 slice-write-marks : tie.Need-slice-write-marks
 slice-write-marks c = omega arith
 
@@ -66,18 +63,5 @@ pub part-one-spec : {M : Type 1} → statement M
 part-one-spec =
     tie.close
     (tie.spec
-    add-i
-    slice-read-if1
-    slice-read-if2
-    mul-copy-within
-    mul-copy-within-2
-    copy-within-requires
-    slice-write-marks
-    slice-write-marks-2
-    slice-write-marks-3
-    same-length
-    same-length-2
-    returns
-    returns-2
-    same-length-3
-    returns-3)
+    add-i slice-read-if1 slice-read-if2 mul-copy-within mul-copy-within-2 (λ c κs. tt) slice-write-marks slice-write-marks-2 slice-write-marks-3 same-length
+    same-length-2 returns returns-2 same-length-3 returns-3)

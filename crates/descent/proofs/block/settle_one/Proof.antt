@@ -23,9 +23,6 @@ mul-add-within-2 c =
     let A = c .before .before .before .before .before .args in
     omega (arith, row-fit (A .j) (A .h + A .h) (A .w) (omega arith))
 
-add-within-requires : tie.Need-add-within-requires
-add-within-requires c κs = tt
-
 slice-write-marks : tie.Need-slice-write-marks
 slice-write-marks c = omega arith
 
@@ -49,13 +46,4 @@ pub settle-one-spec : {M : Type 1} → statement M
 settle-one-spec =
     tie.close
     (tie.spec
-    add-i
-    slice-read-if1
-    mul-add-within
-    mul-add-within-2
-    add-within-requires
-    slice-write-marks
-    same-length
-    same-length-2
-    returns
-    returns-2)
+    add-i slice-read-if1 mul-add-within mul-add-within-2 (λ c κs. tt) slice-write-marks same-length same-length-2 returns returns-2)

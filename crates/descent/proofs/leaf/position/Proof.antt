@@ -17,9 +17,6 @@ fill-requires c κs =
 mul-copy : tie.Need-mul-copy
 mul-copy c = omega arith
 
-copy-requires : tie.Need-copy-requires
-copy-requires c κs = tt
-
 same-length : tie.Need-same-length
 same-length c = c .before .before .before .before .before .before .before .fill .kept .1 .0
 
@@ -40,14 +37,4 @@ returns c =
     (F .last .1 .0) (C .last .0) (H .last .1 .1 .1 .0) (F .result) (H .result) (F .kept .1 .0 ∙ P .0 .0) (F .ensures) (H .ensures) (C .ensures)
 
 pub position-spec : {M : Type 1} → statement M
-position-spec =
-    tie.close
-    (tie.spec
-    hold-requires
-    fill-requires
-    mul-copy
-    copy-requires
-    same-length
-    same-length-2
-    same-length-3
-    returns)
+position-spec = tie.close (tie.spec hold-requires fill-requires mul-copy (λ c κs. tt) same-length same-length-2 same-length-3 returns)

@@ -1,18 +1,12 @@
 use mathlib.Core.Path.{sym, _∙_}
 use borrow.Author.Tests.{not-false}
-use Rattle.counting.proofs.Lengths.{shaped-true}
+use Rattle.sheet.proofs.Shapes.{shaped-true}
 use Rattle.descent.proofs.Fitting.{fitting-shaped, fitting-roomy, fitting-filled, roomy-true}
 use Rattle.descent.proofs.limits.fits.Statement.{statement}
 use Rattle.descent.proofs.limits.fits.Tie as tie
 
-shaped-requires : tie.Need-shaped-requires
-shaped-requires c κs = tt
-
 returns : tie.Need-returns
 returns c = sym (fitting-shaped _ _ _ _ _ _ _ _ _ (c .before .shaped .ensures) (c .if1 .taken))
-
-roomy-requires : tie.Need-roomy-requires
-roomy-requires c κs = tt
 
 returns-2 : tie.Need-returns-2
 returns-2 c =
@@ -32,5 +26,4 @@ returns-3 c =
     c .filled .ensures ∙ sym (fitting-filled _ _ _ _ _ _ _ _ _ s r)
 
 pub fits-spec : {M : Type 1} → statement M
-fits-spec =
-    tie.close (tie.spec shaped-requires returns roomy-requires returns-2 filled-requires returns-3)
+fits-spec = tie.close (tie.spec (λ c κs. tt) returns (λ c κs. tt) returns-2 filled-requires returns-3)

@@ -3,7 +3,7 @@ use Prim.Native.Nat.{ℕ, _+_, _-_, _*_, _≤_}
 use native.Mathlib.Omega.{arith}
 use lib.ListN.{length, length-set}
 use Rattle.descent.specs.Block.{Marked}
-use Rattle.descent.proofs.Placing.{mark-turn, other-default, mark-end}
+use Rattle.descent.proofs.Marking.{mark-turn, other-default, mark-end}
 use Rattle.descent.proofs.word.mark.Statement.{statement}
 use Rattle.descent.proofs.word.mark.Tie as tie
 

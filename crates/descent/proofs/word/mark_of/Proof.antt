@@ -2,7 +2,7 @@ use mathlib.Core.Path.{_≡_, refl}
 use Prim.Native.Nat.{ℕ, zero, suc, _≤_, _<_}
 use native.Mathlib.Omega.{arith}
 use Rattle.descent.specs.Block.{markOf}
-use Rattle.descent.proofs.Placing.{mark-gone, mark-known}
+use Rattle.descent.proofs.Marking.{mark-gone, mark-known}
 use Rattle.descent.proofs.word.mark_of.Statement.{statement}
 use Rattle.descent.proofs.word.mark_of.Tie as tie
 

@@ -1,7 +1,6 @@
 use mathlib.Core.Path.{_∙_}
 use Prim.Native.Nat.{ℕ, _*_, _^_, _≤_}
 use native.Mathlib.Omega.{arith}
-use native.Mathlib.Nat.{mul-le-mul-right}
 use lib.ListN.{length}
 use Rattle.meaning.specs.Limits.{largestN}
 use Rattle.descent.specs.Descending.{widest}
@@ -24,8 +23,7 @@ mul-used c =
     let R = S .pre .0 in
     let h = rows-back (A .c) (A .w) (A .n) (A .sheet .now) (A .marks .now) (A .vals .now) (A .us .now) (A .eqs .now) (D .last .1 .0) (D .last .1 .1 .1 .0) (D .last .1 .1 .1 .1 .0) (D .result .next) (D .result .eqs) (D .ensures) in
     let k = many-most (A .w) (A .n) _ (whole-most (A .c) (A .w) (A .n) (A .sheet .now) (A .marks .now) (A .vals .now) (A .us .now) (A .eqs .now)) (length (A .marks .now)) (R .symbols) _ _ _ _ (D .result .eqs) h in
-    let y : D .result .eqs * A .w ≤ 2 ^ A .n * A .w = mul-le-mul-right (A .w) k in
-    omega (arith, R .rows-e, S .good)
+    omega (arith, k, R .rows-e, S .good)
 
 sub-zero : tie.Need-sub-zero
 sub-zero c =
@@ -35,11 +33,7 @@ sub-zero c =
     let R = S .pre .0 in
     let h = rows-back (A .c) (A .w) (A .n) (A .sheet .now) (A .marks .now) (A .vals .now) (A .us .now) (A .eqs .now) (D .last .1 .0) (D .last .1 .1 .1 .0) (D .last .1 .1 .1 .1 .0) (D .result .next) (D .result .eqs) (D .ensures) in
     let k = many-most (A .w) (A .n) _ (whole-most (A .c) (A .w) (A .n) (A .sheet .now) (A .marks .now) (A .vals .now) (A .us .now) (A .eqs .now)) (length (A .marks .now)) (R .symbols) _ _ _ _ (D .result .eqs) h in
-    let y : D .result .eqs * A .w ≤ 2 ^ A .n * A .w = mul-le-mul-right (A .w) k in
-    omega (arith, R .rows-e, D .kept .1 .1 .1 .1 .0)
-
-zero-requires : tie.Need-zero-requires
-zero-requires c κs = tt
+    omega (arith, k, R .rows-e, D .kept .1 .1 .1 .1 .0)
 
 same-length : tie.Need-same-length
 same-length c = c .before .before .before .before .before .before .before .before .before .before .before .before .before .decode .kept .1 .0
@@ -61,18 +55,7 @@ returns c =
     let Z = c .before .before .zero in
     let R = S .pre .0 in
     let h = rows-back (A .c) (A .w) (A .n) (A .sheet .now) (A .marks .now) (A .vals .now) (A .us .now) (A .eqs .now) (D .last .1 .0) (D .last .1 .1 .1 .0) (D .last .1 .1 .1 .1 .0) (D .result .next) (D .result .eqs) (D .ensures) in
-    filled-up (A .w) (A .n) _ (whole-most (A .c) (A .w) (A .n) (A .sheet .now) (A .marks .now) (A .vals .now) (A .us .now) (A .eqs .now)) (length (A .marks .now)) (R .symbols) _ _ _ _ _ h _ (D .kept .1 .0 ∙ R .rows-v) (D .kept .1 .1 .1 .0 ∙ R .rows-u) (D .kept .1 .1 .1 .1 .0 ∙ R .rows-e) (Z .ensures)
+    filled-up (A .w) (A .n) _ (whole-most (A .c) (A .w) (A .n) (A .sheet .now) (A .marks .now) (A .vals .now) (A .us .now) (A .eqs .now)) (length (A .marks .now)) (R .symbols) _ _ _ _ _ h _ _ (D .kept .1 .0 ∙ R .rows-v) (D .kept .1 .1 .1 .0 ∙ R .rows-u) (R .rows-e) (D .kept .1 .1 .1 .1 .0) (Z .ensures)
 
 pub run-rows-spec : {M : Type 1} → statement M
-run-rows-spec =
-    tie.close
-    (tie.spec
-    decode-requires
-    mul-used
-    sub-zero
-    zero-requires
-    same-length
-    same-length-2
-    same-length-3
-    same-length-4
-    returns)
+run-rows-spec = tie.close (tie.spec decode-requires mul-used sub-zero (λ c κs. tt) same-length same-length-2 same-length-3 same-length-4 returns)

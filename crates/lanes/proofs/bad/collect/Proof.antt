@@ -3,7 +3,7 @@ use Prim.Native.Nat.{_-_, _/_}
 use lib.ListN.{length}
 use native.Mathlib.Nat.{div-le-self}
 use Rattle.bits.specs.Rows.{Row}
-use Rattle.reading.proofs.Cutting.{row-in, row-long, row-cut}
+use Rattle.verdict.proofs.Cutting.{row-in, row-long, row-cut}
 use Rattle.lanes.specs.Inner.{AddedBare}
 use Rattle.lanes.proofs.Collecting.{CollectedUpTo, collect-none, collect-next, collect-all}
 use borrow.Author.Needs.{needs}

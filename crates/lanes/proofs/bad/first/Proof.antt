@@ -6,23 +6,14 @@ use native.Mathlib.Omega.{arith}
 use Rattle.lanes.proofs.bad.first.Statement.{statement}
 use Rattle.lanes.proofs.bad.first.Tie as tie
 
-slice-aggregate-collect : tie.Need-slice-aggregate-collect
-slice-aggregate-collect c = search needs
-
 collect-requires : tie.Need-collect-requires
 collect-requires c κs = (c .before .before .pre .0, c .before .before .pre .1, refl)
-
-slice-aggregate-none : tie.Need-slice-aggregate-none
-slice-aggregate-none c = search needs
 
 none-requires : tie.Need-none-requires
 none-requires c κs = c .before .before .collect .kept .1 .1 .1 .0
 
 returns : tie.Need-returns
 returns c = none-first _ _ _ (c .before .before .before .before .collect .ensures) (c .before .before .before .before .collect .kept .1 .1 .1 .0) (sym (c .before .none .ensures) ∙ c .if1 .taken)
-
-slice-aggregate-seek : tie.Need-slice-aggregate-seek
-slice-aggregate-seek c = search needs
 
 seek-requires : tie.Need-seek-requires
 seek-requires c κs = c .before .before .before .before .before .collect .kept .1 .1 .1 .0
@@ -31,14 +22,4 @@ returns-2 : tie.Need-returns-2
 returns-2 c = c .seek .ensures ∙ seek-first _ _ _ (c .before .before .before .before .before .before .collect .ensures)
 
 pub first-spec : {M : Type 1} → statement M
-first-spec =
-    tie.close
-    (tie.spec
-    slice-aggregate-collect
-    collect-requires
-    slice-aggregate-none
-    none-requires
-    returns
-    slice-aggregate-seek
-    seek-requires
-    returns-2)
+first-spec = tie.close (tie.spec (λ c. search needs) collect-requires (λ c. search needs) none-requires returns (λ c. search needs) seek-requires returns-2)

@@ -3,7 +3,7 @@ use Prim.Native.Nat.{_-_}
 use lib.ListN.{length}
 use Rattle.bits.specs.Rows.{row}
 use Rattle.bits.proofs.Filling.{Filling, filling-none, filling-next, filling-all}
-use Rattle.reading.proofs.Cutting.{row-in, row-cut}
+use Rattle.verdict.proofs.Cutting.{row-in, row-cut}
 use Rattle.lanes.specs.Lanes.{rowMark}
 use Rattle.lanes.specs.Inner.{markRows}
 use borrow.Author.Needs.{needs}

@@ -7,23 +7,8 @@ use native.Mathlib.Omega.{arith}
 use Rattle.lanes.proofs.fill.record.Statement.{statement}
 use Rattle.lanes.proofs.fill.record.Tie as tie
 
-led-requires : tie.Need-led-requires
-led-requires c κs = search needs
-
-blank-requires : tie.Need-blank-requires
-blank-requires c κs = search needs
-
-spell-requires : tie.Need-spell-requires
-spell-requires c κs = search needs
-
-same-length : tie.Need-same-length
-same-length c = search needs
-
 returns : tie.Need-returns
 returns c = record-led _ _ _ (sym (c .before .before .before .before .before .led .ensures) ∙ c .before .before .before .before .if1 .taken) (c .before .before .blank .ensures ∙ ap (λ (n : ℕ). replicate n 0) (c .before .before .before .before .before .before .before .before .pre .1))
-
-same-length-2 : tie.Need-same-length-2
-same-length-2 c = search needs
 
 returns-2 : tie.Need-returns-2
 returns-2 c = record-bare _ _ _ (sym (c .before .before .before .before .before .led .ensures) ∙ c .before .before .before .before .if1 .left) (c .before .before .spell .ensures)
@@ -32,10 +17,4 @@ pub record-spec : {M : Type 1} → statement M
 record-spec =
     tie.close
     (tie.spec
-    led-requires
-    blank-requires
-    spell-requires
-    same-length
-    returns
-    same-length-2
-    returns-2)
+    (λ c κs. search needs) (λ c κs. search needs) (λ c κs. search needs) (λ c. search needs) returns (λ c. search needs) returns-2)

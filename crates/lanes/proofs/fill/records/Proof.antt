@@ -5,7 +5,7 @@ use lib.ListN.{length, drop, length-take, length-drop}
 use Rattle.bits.specs.Vectors.{tab}
 use Rattle.bits.specs.Rows.{row}
 use Rattle.bits.proofs.Records.{put-record}
-use Rattle.reading.proofs.Cutting.{row-in, row-long, row-cut}
+use Rattle.verdict.proofs.Cutting.{row-in, row-long, row-cut}
 use Rattle.lanes.specs.Lanes.{rowRecord}
 use Rattle.lanes.specs.Inner.{recordRows}
 use Rattle.lanes.proofs.Spelling.{record-long}

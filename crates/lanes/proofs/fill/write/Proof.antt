@@ -31,9 +31,6 @@ part-marks-end c = omega (arith, c .before .before .records .kept .1 .1 .1 .0, c
 marks-requires : tie.Need-marks-requires
 marks-requires c κs = (c .before .before .before .before .before .before .before .pre .1, simp (length-take, length-drop) (omega (arith, c .before .before .before .records .kept .1 .1 .1 .0, c .before .before .before .before .before .before .before .pre .2)))
 
-same-length : tie.Need-same-length
-same-length c = search needs
-
 returns : tie.Need-returns
 returns c =
     let A = c .before .before .before .before .before .before .before .before .before .before .args in
@@ -43,13 +40,4 @@ pub write-spec : {M : Type 1} → statement M
 write-spec =
     tie.close
     (tie.spec
-    div-n
-    records-requires
-    mul-marks
-    mul-marks-2
-    sub-marks
-    part-marks-start
-    part-marks-end
-    marks-requires
-    same-length
-    returns)
+    div-n records-requires mul-marks mul-marks-2 sub-marks part-marks-start part-marks-end marks-requires (λ c. search needs) returns)

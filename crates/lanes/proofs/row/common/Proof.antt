@@ -4,12 +4,6 @@ use native.Mathlib.Omega.{arith}
 use Rattle.lanes.proofs.row.common.Statement.{statement}
 use Rattle.lanes.proofs.row.common.Tie as tie
 
-mul-if1 : tie.Need-mul-if1
-mul-if1 c = search needs
-
-shared-slice-read-if1 : tie.Need-shared-slice-read-if1
-shared-slice-read-if1 c = search needs
-
 returns : tie.Need-returns
 returns c = common-one _ _ (c .if1 .taken)
 
@@ -17,4 +11,4 @@ returns-2 : tie.Need-returns-2
 returns-2 c = common-zero _ _ (c .if1 .left)
 
 pub common-spec : {M : Type 1} → statement M
-common-spec = tie.close (tie.spec mul-if1 shared-slice-read-if1 returns returns-2)
+common-spec = tie.close (tie.spec (λ c. search needs) (λ c. search needs) returns returns-2)

@@ -1,5 +1,7 @@
 use Rattle.meaning.specs.Limits.{largestN, largestCeiling}
 use Rattle.descent.specs.Descending.{widest}
+use Rattle.system.specs.Solving.{longestCheck}
+use Rattle.system.proofs.Testing.{length-longest}
 use Rattle.strips.specs.Rooms.{fewWords, someWords, mostWords}
 use borrow.Author.Needs.{needs}
 use native.Mathlib.Omega.{arith}
@@ -7,11 +9,15 @@ use Rattle.strips.proofs.rooms.answer.Statement.{statement}
 use Rattle.strips.proofs.rooms.answer.Tie as tie
 
 add-words : tie.Need-add-words
+unfolding longestCheck
+add-words c = let S = c .before .before .before .before in omega (arith, length-longest (S .pre .0 .check))
+
+add-words-2 : tie.Need-add-words-2
 unfolding widest
-add-words c = omega (arith, c .before .before .before .before .pre .1 .1)
+add-words-2 c = omega (arith, c .before .before .before .before .pre .1 .1)
 
 mul-words : tie.Need-mul-words
-unfolding mostWords largestN largestCeiling
+unfolding mostWords largestN largestCeiling longestCheck
 mul-words c = omega (arith, c .before .before .before .before .pre .1 .2)
 
 few-requires : tie.Need-few-requires
@@ -48,6 +54,7 @@ answer-spec =
     tie.close
     (tie.spec
     add-words
+    add-words-2
     mul-words
     few-requires
     same-length

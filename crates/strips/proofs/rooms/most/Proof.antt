@@ -1,35 +1,24 @@
+use Rattle.system.specs.Solving.{longestCheck}
 use Rattle.strips.specs.Rooms.{mostWords}
 use Rattle.meaning.specs.Limits.{largestN, largestCeiling}
+use Rattle.strips.proofs.Solved.{rows-fewer}
+use Prim.Native.Nat.{_+_}
+use lib.ListN.{length}
 use borrow.Author.Needs.{needs}
 use Rattle.strips.proofs.rooms.most.Statement.{statement}
 use Rattle.strips.proofs.rooms.most.Tie as tie
 
-slice-aggregate-within : tie.Need-slice-aggregate-within
-slice-aggregate-within c = search needs
-
-slice-aggregate-within-2 : tie.Need-slice-aggregate-within-2
-slice-aggregate-within-2 c = search needs
-
-slice-aggregate-within-3 : tie.Need-slice-aggregate-within-3
-slice-aggregate-within-3 c = search needs
-
 within-requires : tie.Need-within-requires
-unfolding largestN largestCeiling mostWords
-within-requires c κs = let (f, p) = c .before .before .before .before .before .before .before .before .pre in (f, (p .0, p .1, p .2, p .2, p .2))
-
-same-length : tie.Need-same-length
-same-length c = search needs
+unfolding largestN largestCeiling mostWords longestCheck
+within-requires c κs =
+    let S = c .before .before .before .before .before .before .before .before in
+    let A = S .args in
+    let (f, p) = S .pre in
+    let h = rows-fewer (length (A .word .now)) (A .r) (A .c + 9) _ (p .2) in
+    (f, (p .0, p .1, h, h, p .2))
 
 returns : tie.Need-returns
 returns c = c .before .before .before .before .before .within .ensures
 
 pub most-spec : {M : Type 1} → statement M
-most-spec =
-    tie.close
-    (tie.spec
-    slice-aggregate-within
-    slice-aggregate-within-2
-    slice-aggregate-within-3
-    within-requires
-    same-length
-    returns)
+most-spec = tie.close (tie.spec (λ c. search needs) (λ c. search needs) (λ c. search needs) within-requires (λ c. search needs) returns)

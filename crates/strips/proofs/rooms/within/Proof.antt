@@ -1,11 +1,11 @@
 use Prim.Native.Nat.{_+_, _*_, zero-le}
-use mathlib.Core.Path.{refl}
+use mathlib.Core.Path.{refl, ap}
+use native.Mathlib.Omega.{arith}
 use lib.ListN.{length}
 use Rattle.descent.specs.Descending.{widest}
-use Rattle.decoder.proofs.Deciding.{rows-back}
-use Rattle.strips.proofs.Descents.{rows-long}
-use borrow.Author.Needs.{needs}
-use native.Mathlib.Omega.{arith}
+use Rattle.system.specs.Solving.{longestCheck}
+use Rattle.system.proofs.Testing.{length-longest}
+use Rattle.decoder.proofs.Deciding.{rows-long, rows-back}
 use Rattle.strips.proofs.rooms.within.Statement.{statement}
 use Rattle.strips.proofs.rooms.within.Tie as tie
 
@@ -15,6 +15,17 @@ add-k c = omega (arith, c .before .before .before .before .before .before .befor
 
 mul-k : tie.Need-mul-k
 mul-k c = omega (arith, c .before .before .before .before .before .before .before .pre .1 .2)
+
+add-q : tie.Need-add-q
+unfolding longestCheck
+add-q c = omega (arith, length-longest (c .before .before .before .before .before .before .before .pre .0 .check))
+
+add-q-2 : tie.Need-add-q-2
+unfolding widest
+add-q-2 c = omega (arith, c .before .before .before .before .before .before .before .pre .1 .1)
+
+mul-q : tie.Need-mul-q
+mul-q c = omega (arith, c .before .before .before .before .before .before .before .pre .1 .4)
 
 add-answer : tie.Need-add-answer
 unfolding widest
@@ -49,12 +60,13 @@ part-answer-end-3 c = c .before .before .before .before .before .before .before 
 
 answer-requires : tie.Need-answer-requires
 answer-requires c κs =
-    let S = c .before .before .before .before .before .before .before .before .before .before .before in
-    let A = S .args in
-    let p = S .pre .1 in
-    let long = rows-long (A .n) (A .c) (length (A .word .now)) in
-    let e = S .pre .0 .symbols in
-    (S .pre .0, (refl, p .1, p .0, long (A .vals .now) e (p .2), long (A .us .now) e (p .3), long (A .eqs .now) e (p .4)))
+    let A = c .before .before .before .before .before .before .before .before .before .before .before .args in
+    let P = c .before .before .before .before .before .before .before .before .before .before .before .pre in
+    let p = P .1 in
+    let e = P .0 .symbols in
+    let k = length (A .word .now) in
+    let w = A .c + 9 in
+    (P .0, (refl, p .1, p .0, rows-long k _ w (A .vals .now) e (p .2), rows-long k _ w (A .us .now) e (p .3), rows-long (k + A .r) _ w (A .eqs .now) (ap (λ i. i + A .r) e) (p .4)))
 
 same-length : tie.Need-same-length
 same-length c =
@@ -72,7 +84,7 @@ same-length-3 : tie.Need-same-length-3
 same-length-3 c =
     let A = c .before .before .before .before .before .before .before .before .before .before .before .before .before .before .before .before .before .before .before .before .args in
     let a = c .before .before .before .before .before .before .before .before .answer in
-    rows-back (length (A .word .now) * (A .c + 9)) (A .eqs .now) (a .last .1 .1 .1 .1 .1 .1 .1 .1 .1 .1 .0) (a .kept .1 .1 .1 .1 .1 .1 .1 .1 .1 .1 .0)
+    rows-back ((length (A .word .now) + A .r) * (A .c + 9)) (A .eqs .now) (a .last .1 .1 .1 .1 .1 .1 .1 .1 .1 .1 .0) (a .kept .1 .1 .1 .1 .1 .1 .1 .1 .1 .1 .0)
 
 same-length-4 : tie.Need-same-length-4
 same-length-4 c = c .before .before .before .before .before .before .before .before .answer .kept .1 .1 .1 .1 .1 .1 .1 .1 .1 .1 .1 .0
@@ -86,6 +98,9 @@ within-spec =
     (tie.spec
     add-k
     mul-k
+    add-q
+    add-q-2
+    mul-q
     add-answer
     sub-answer
     part-answer-start

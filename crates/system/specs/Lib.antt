@@ -1,0 +1,2 @@
+-- Solving: what `solve` promises.
+pub mod Solving
