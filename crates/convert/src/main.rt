@@ -30,7 +30,7 @@ fn say_place(place: usize) {
 fn refuse(old: &[u8], code: usize, place: usize) {
     if code == 12 {
         say_place(place);
-    } else if stream::size(old) <= limits::LARGEST_N {
+    } else if stream::n_of(old) <= limits::LARGEST_N {
         say(b"convert: 11, the sheet has records of 68 bytes already, and needs no converting\n");
     } else {
         say(b"convert: 11, the sheet is not 20 N bytes long for an N of 1, 2, 4, .. 128\n");
@@ -46,13 +46,13 @@ fn write(s: &[u8]) {
 
 // Converts a sheet, and writes what it becomes or says why not.
 fn turn(old: &[u8], out: &mut [u8]) {
-    let n = sheet_convert::old_size(old);
+    let n = sheet_convert::old_n(old);
     let a = sheet_convert::convert(n, old, out);
-    if meaning::is_done(a) {
+    if answers::is_done(a) {
         let k = old.len() / limits::OLD_RECORD * limits::RECORD;
         write(&out[0..k]);
     } else {
-        let v = meaning::numbers(a);
+        let v = answers::numbers(a);
         refuse(old, v[0], v[1]);
     }
 }

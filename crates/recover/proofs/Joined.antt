@@ -8,7 +8,7 @@ use mathlib.Core.List.{List, [], _∷_, _++_, map, flatten}
 use lib.ListN.{length, take, drop}
 use lib.Seq.{take-at}
 use Rattle.meaning.specs.Limits.{largestN}
-use Rattle.meaning.specs.Stream.{sizeOf, records}
+use Rattle.meaning.specs.Stream.{nOf, records}
 use Rattle.stream.proofs.Promise.{WholeWords, cut-bytes}
 use Rattle.recover.specs.Runs.{Filled}
 
@@ -32,6 +32,6 @@ module _ {s ch : List ℕ} where
   all-sent [] = refl
   all-sent (r ∷ runs) = ap₂ {C = List ℕ} _++_ (sent-is r) (all-sent runs)
 
-  pub runs-joined : sizeOf s ≤ largestN → length ch ≡ 2 → (runs : List (Run s ch)) (last : Run s ch) → WholeWords (2 ^ sizeOf s) (map (λ (r : Run s ch). r .words) runs)
+  pub runs-joined : nOf s ≤ largestN → length ch ≡ 2 → (runs : List (Run s ch)) (last : Run s ch) → WholeWords (2 ^ nOf s) (map (λ (r : Run s ch). r .words) runs)
       → flatten (map sent runs) ++ sent last ≡ flatten (records s ch (flatten (map (λ (r : Run s ch). r .words) runs) ++ last .words))
   runs-joined h two runs last w = ap₂ {C = List ℕ} _++_ (all-sent runs) (sent-is last) ∙ sym (cut-bytes s ch h two (map (λ (r : Run s ch). r .words) runs) (last .words) w)

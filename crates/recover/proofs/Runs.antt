@@ -8,7 +8,7 @@ use lib.ListN.{length, drop, length-append}
 use lib.Pow.{pow-pos, pow-mono}
 use Rattle.meaning.specs.Limits.{largestN}
 use Rattle.meaning.specs.Answers.{leaving}
-use Rattle.meaning.specs.Stream.{answerBytes, sizeOf, roundedUp, records, streaming}
+use Rattle.meaning.specs.Stream.{answerBytes, nOf, roundedUp, records, streaming}
 use Rattle.meaning.specs.declared.Answer.{Answer}
 use Rattle.bits.proofs.RowLaws.{length-flatten}
 use Rattle.meaning.proofs.Cutting.{rounded-few}
@@ -19,9 +19,9 @@ use Rattle.recover.specs.Runs.{runWords, Ready, Filled}
 
 pub run-room : (s ch : List ℕ) (run room : ℕ) → Ready s ch run room → (input : List ℕ) → length input ≤ run → length (records s ch input) * answerBytes ≤ room
 run-room s ch run room ok input h =
-    let N : ℕ = 2 ^ sizeOf s in
-    let e : roundedUp (length input) N ≡ length (records s ch input) = counted s ch input (sizeOf s) refl (ok .small) (ok .two) N refl _ refl in
-    let l : roundedUp (length input) N ≤ runWords = rounded-few (length input) N runWords (omega (arith, pow-pos (sizeOf s))) (omega (arith, ok .words)) in
+    let N : ℕ = 2 ^ nOf s in
+    let e : roundedUp (length input) N ≡ length (records s ch input) = counted s ch input (nOf s) refl (ok .small) (ok .two) N refl _ refl in
+    let l : roundedUp (length input) N ≤ runWords = rounded-few (length input) N runWords (omega (arith, pow-pos (nOf s))) (omega (arith, ok .words)) in
     le-trans (mul-le-mul-right answerBytes (le-trans (le-of-eq (sym e)) l)) (ok .roomy)
 
 -- a run has room for one record
@@ -32,7 +32,7 @@ one-room room e = omega arith
 pub one-fits : (s ch : List ℕ) (room : ℕ) → length (records s ch []) ≡ 1 → answerBytes ≤ room → length (records s ch []) * answerBytes ≤ room
 one-fits s ch room e l = rw e (omega arith)
 
-module _ (s ch input : List ℕ) (n : ℕ) (e : n ≡ sizeOf s) where
+module _ (s ch input : List ℕ) (n : ℕ) (e : n ≡ nOf s) where
   pub ready : n ≤ largestN → length ch ≡ 2 → (run : ℕ) → run ≡ runWords * 2 ^ n → Ready s ch run (runWords * answerBytes)
   ready h q run er = record { small = rw (← e) h; two = q; words = er ∙ ap (λ (k : ℕ). runWords * 2 ^ k) e; roomy = omega arith }
 

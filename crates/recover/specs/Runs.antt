@@ -8,7 +8,7 @@ use Prim.Native.Nat.{ℕ, _*_, _^_, _≤_}
 use mathlib.Core.List.{List, _++_, flatten}
 use lib.ListN.{length, drop}
 use Rattle.meaning.specs.Limits.{largestN}
-use Rattle.meaning.specs.Stream.{answerBytes, sizeOf, records}
+use Rattle.meaning.specs.Stream.{answerBytes, nOf, records}
 
 unfoldable pub runWords : ℕ
 runWords = 32
@@ -18,9 +18,9 @@ choiceBytes = 2
 
 -- the sheet and the choice have a right length, and there is room for the words and the records of a run
 pub record Ready (s ch : List ℕ) (run room : ℕ) : Type 0 where
-  pub small : sizeOf s ≤ largestN
+  pub small : nOf s ≤ largestN
   pub two : length ch ≡ 2
-  pub words : run ≡ runWords * 2 ^ sizeOf s
+  pub words : run ≡ runWords * 2 ^ nOf s
   pub roomy : runWords * answerBytes ≤ room
 
 -- the output starts with the records of the words, of k bytes, and goes on as found

@@ -8,7 +8,7 @@ use mathlib.Core.List.{List, [], _∷_, _++_, map, flatten}
 use lib.ListN.{length, take}
 use lib.Seq.{take-at}
 use Rattle.meaning.specs.Limits.{largestN}
-use Rattle.meaning.specs.Stream.{sizeOf}
+use Rattle.meaning.specs.Stream.{nOf}
 use Rattle.meaning.proofs.Cutting.{WholePieces}
 use Rattle.strip_stream.specs.Strips.{stripBytes, headers, parts}
 use Rattle.strip_stream.proofs.Promise.{cut-headers, cut-parts}
@@ -44,7 +44,7 @@ module _ {s ch lost : List ℕ} where
   all-sent sent g e [] = refl
   all-sent sent g e (r ∷ runs) = ap₂ {C = List ℕ} _++_ (e r) (all-sent sent g e runs)
 
-  pub runs-joined : sizeOf s ≤ largestN → length ch ≡ 2 → (runs : List (Run s ch lost)) (last : Run s ch lost) → WholePieces (stripBytes (sizeOf s)) (map (λ (r : Run s ch lost). r .strips) runs)
+  pub runs-joined : nOf s ≤ largestN → length ch ≡ 2 → (runs : List (Run s ch lost)) (last : Run s ch lost) → WholePieces (stripBytes (nOf s)) (map (λ (r : Run s ch lost). r .strips) runs)
       → (flatten (map sentParts runs) ++ sentParts last ≡ flatten (parts s ch lost (flatten (map (λ (r : Run s ch lost). r .strips) runs) ++ last .strips)))
       × (flatten (map sentRecords runs) ++ sentRecords last ≡ flatten (headers s ch lost (flatten (map (λ (r : Run s ch lost). r .strips) runs) ++ last .strips)))
   runs-joined h two runs last w =

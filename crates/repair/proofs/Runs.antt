@@ -7,7 +7,7 @@ use mathlib.Core.List.{List, [], _++_, flatten}
 use lib.ListN.{length, drop, length-append}
 use lib.Pow.{pow-mono}
 use Rattle.meaning.specs.Limits.{largestN, headBytes}
-use Rattle.meaning.specs.Stream.{sizeOf, roundedUp}
+use Rattle.meaning.specs.Stream.{nOf, roundedUp}
 use Rattle.meaning.specs.declared.Answer.{Answer}
 use Rattle.meaning.proofs.Cutting.{rounded-few}
 use Rattle.strip_stream.specs.Strips.{stripBytes, partBytes, recordCount, partCount, headers, parts, leavingBoth, answeringStrips}
@@ -18,9 +18,9 @@ use Rattle.repair.specs.Runs.{runStrips, Room, Ready, Filled}
 
 pub run-room : (s ch : List ℕ) (run l m : ℕ) → Ready s ch run l m → (strips : List ℕ) → length strips ≤ run → Room s ch strips l m
 run-room s ch run l m ok strips h =
-    let few : roundedUp (length strips) (stripBytes (sizeOf s)) ≤ runStrips = rounded-few (length strips) (stripBytes (sizeOf s)) runStrips (strip-pos (sizeOf s)) (omega (arith, ok .strips)) in
+    let few : roundedUp (length strips) (stripBytes (nOf s)) ≤ runStrips = rounded-few (length strips) (stripBytes (nOf s)) runStrips (strip-pos (nOf s)) (omega (arith, ok .strips)) in
     record {
-      partsFit = le-trans (mul-le-mul-right (partBytes (sizeOf s)) (le-trans (le-of-eq (part-count s ch [] (ok .small) (ok .two) strips)) few)) (ok .partsFit);
+      partsFit = le-trans (mul-le-mul-right (partBytes (nOf s)) (le-trans (le-of-eq (part-count s ch [] (ok .small) (ok .two) strips)) few)) (ok .partsFit);
       recordsFit = le-trans (mul-le-mul-right headBytes (le-trans (le-of-eq (record-count s ch [] (ok .small) (ok .two) strips)) few)) (ok .recordsFit);
     }
 
@@ -32,7 +32,7 @@ one-room m e = omega arith
 pub one-fits : (s ch : List ℕ) (l m : ℕ) → recordCount s ch [] ≡ 1 → partCount s ch [] ≡ 0 → headBytes ≤ m → Room s ch [] l m
 one-fits s ch l m e q h = record { partsFit = rw q (omega arith); recordsFit = rw e (omega arith) }
 
-module _ (s ch : List ℕ) (n : ℕ) (e : n ≡ sizeOf s) where
+module _ (s ch : List ℕ) (n : ℕ) (e : n ≡ nOf s) where
   -- the parts of the longest run fit, so those of any run do
   pub ready : n ≤ largestN → length ch ≡ 2 → (run l m : ℕ) → run ≡ runStrips * stripBytes n → l ≡ runStrips * partBytes largestN → m ≡ runStrips * headBytes → Ready s ch run l m
   unfolding partBytes runStrips
@@ -60,10 +60,10 @@ ready-same s ch run run′ l l′ m m′ e q u ok = rw (e, q, u) ok
 -- what `answer` leaves, given room
 module _ (s ch lost strips found x found′ y : List ℕ) (a : Answer) (k A j : ℕ) where
   pub filled-in : (lent : List ℕ) → lent ≡ strips → leavingBoth x y a ≡ answeringStrips s ch lost lent found found′ → Room s ch strips (length found) (length found′)
-      → k ≡ partCount s ch lent → A ≡ partBytes (sizeOf s) → j ≡ recordCount s ch lent → Filled s ch lost strips found x found′ y (k * A) (j * headBytes)
+      → k ≡ partCount s ch lent → A ≡ partBytes (nOf s) → j ≡ recordCount s ch lent → Filled s ch lost strips found x found′ y (k * A) (j * headBytes)
   filled-in lent same p room ek eA ej =
       let w = room-written s ch lost strips found found′ x y a (rw same at p) (room .recordsFit) (room .partsFit) in
-      let eK : k * A ≡ partCount s ch strips * partBytes (sizeOf s) = ap (λ (t : ℕ). t * A) (ek ∙ ap (partCount s ch) same) ∙ ap (λ (t : ℕ). partCount s ch strips * t) eA in
+      let eK : k * A ≡ partCount s ch strips * partBytes (nOf s) = ap (λ (t : ℕ). t * A) (ek ∙ ap (partCount s ch) same) ∙ ap (λ (t : ℕ). partCount s ch strips * t) eA in
       let eJ : j * headBytes ≡ recordCount s ch strips * headBytes = ap (λ (t : ℕ). t * headBytes) (ej ∙ ap (recordCount s ch) same) in
       record {
         partsLong = eK ∙ sym (parts-bytes s ch lost strips);

@@ -8,7 +8,7 @@ use Prim.Native.Nat.{ℕ, _*_, _≤_}
 use mathlib.Core.List.{List, _++_, flatten}
 use lib.ListN.{length, drop}
 use Rattle.meaning.specs.Limits.{largestN, headBytes}
-use Rattle.meaning.specs.Stream.{sizeOf}
+use Rattle.meaning.specs.Stream.{nOf}
 use Rattle.strip_stream.specs.Strips.{stripBytes, partBytes, recordCount, partCount, headers, parts}
 
 unfoldable pub runStrips : ℕ
@@ -16,15 +16,15 @@ runStrips = 16
 
 -- in buffers of l and m bytes
 pub record Room (s ch strips : List ℕ) (l m : ℕ) : Type 0 where
-  pub partsFit : partCount s ch strips * partBytes (sizeOf s) ≤ l
+  pub partsFit : partCount s ch strips * partBytes (nOf s) ≤ l
   pub recordsFit : recordCount s ch strips * headBytes ≤ m
 
 -- the sheet and the choice have a right length, and there is room for the strips, the parts and the records of a run
 pub record Ready (s ch : List ℕ) (run l m : ℕ) : Type 0 where
-  pub small : sizeOf s ≤ largestN
+  pub small : nOf s ≤ largestN
   pub two : length ch ≡ 2
-  pub strips : run ≡ runStrips * stripBytes (sizeOf s)
-  pub partsFit : runStrips * partBytes (sizeOf s) ≤ l
+  pub strips : run ≡ runStrips * stripBytes (nOf s)
+  pub partsFit : runStrips * partBytes (nOf s) ≤ l
   pub recordsFit : runStrips * headBytes ≤ m
 
 -- each buffer starts with the parts, or the records, of the strips, of k or j bytes, and goes on as found

@@ -24,7 +24,7 @@ use Rattle.meaning.proofs.Strips.{candidate-long, strips-long}
 use Rattle.meaning.proofs.Dimension.{dimension-is}
 use Rattle.meaning.proofs.Gap.{d-le-g}
 use Rattle.meaning.proofs.Refusals.{first-none, none-append, refused-untouched}
-use Rattle.meaning.proofs.Forms.{Good, good, worded}
+use Rattle.meaning.proofs.Forms.{Good, good, form-parts}
 use Rattle.stream.specs.Laying.{small, Small}
 
 -- a fact of what each row answers, and of what is given where none applies
@@ -51,19 +51,18 @@ verdict-long n g m (x ∷ []) out f h = let l = strips-long n (x ∷ []) (omega 
 verdict-long n g m (x ∷ y ∷ cs) out f h = let l = strips-long n (x ∷ y ∷ cs) (omega arith) f in simp (length-append, length-drop) (omega (arith, l))
 
 pub keeps-length : (n : ℕ) (s : List ℕ) (r c : ℕ) (w out : List ℕ) → length ((decoding n s r c w out) .bytes) ≡ length out
-unfolding decoding decodeRefusals formRefusals
-keeps-length n s r c w out = go (refuses (decodeRefusals n s r c w out)) refl
+unfolding decoding decodeRefusals
+keeps-length n s r c w out = go (refuses (decodeRefusals n s r c w (length out))) refl
   where
     cs : List (List Bool)
     cs = candidates n (rules n s) r w
 
-    go : (b : Bool) → refuses (decodeRefusals n s r c w out) ≡ b → length ((decoding n s r c w out) .bytes) ≡ length out
-    go true e = ap length (refused-untouched out (decodeRefusals n s r c w out) _ e)
+    go : (b : Bool) → refuses (decodeRefusals n s r c w (length out)) ≡ b → length ((decoding n s r c w out) .bytes) ≡ length out
+    go true e = ap length (refused-untouched out (decodeRefusals n s r c w (length out)) _ e)
     go false e =
-        let form = none-append (sheetRefusals n s r ++ wordRefusals (2 ^ n) 2 (3 * 2 ^ n) w (length out)) _ (none-append (formRefusals n s r c w out) _ e .0) .0 in
-        let word = none-append (sheetRefusals n s r) _ form .1 in
-        ap (λ (a : Reply). length (a .bytes)) (first-none (leaving out) (decodeRefusals n s r c w out) _ e)
-        ∙ verdict-long n _ _ cs out (candidate-long n (rules n s) r w) (worded _ _ _ w (length out) word .roomy)
+        let form = form-parts n s r c w (length out) (none-append (formRefusals n s r c w (length out)) _ e .0) in
+        ap (λ (a : Reply). length (a .bytes)) (first-none (leaving out) (decodeRefusals n s r c w (length out)) _ e)
+        ∙ verdict-long n _ _ cs out (candidate-long n (rules n s) r w) (form .1 .roomy)
 
 -- ---- the numbers
 
@@ -116,7 +115,7 @@ module _ (n : ℕ) (h : n ≤ largestN) where
   pub fits-two-bytes : (s : List ℕ) (r c : ℕ) (w out : List ℕ) → Small ((decoding n s r c w out) .answer)
   unfolding decoding decodeRefusals formRefusals sheetRefusals wordRefusals small
   fits-two-bytes s r c w out =
-      by-rows (λ (t : Reply). Small (t .answer)) out (verdict n (unknowns n (rules n s) w) (equations n (rules n s) r w) (candidates n (rules n s) r w) out) (decodeRefusals n s r c w out) (
+      by-rows (λ (t : Reply). Small (t .answer)) out (verdict n (unknowns n (rules n s) w) (equations n (rules n s) r w) (candidates n (rules n s) r w) out) (decodeRefusals n s r c w (length out)) (
         λ _. refl,
         λ a. (
           λ e. rw (lt-ltb (badRecord n s) 65536 (omega (arith, ltb-true (badRecord n s) (2 ^ n) e, size-low))),

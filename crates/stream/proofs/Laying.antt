@@ -11,7 +11,7 @@ use mathlib.Core.List.{List, [], _∷_, _++_, append-assoc, append-nil}
 use lib.ListN.{length, take, drop, replicate, length-append, length-take, length-drop, length-replicate}
 use lib.Seq.{take-all, drop-at, take-length}
 use borrow.Rule.Slice.PartMut.{putMid, postOf}
-use Rattle.bits.proofs.RowLaws.{put-behind}
+use Rattle.bits.proofs.RowsWritten.{put-behind}
 use Rattle.meaning.specs.Limits.{largestN, stripWidth}
 use Rattle.meaning.specs.Answers.{Reply, leaving, decoding}
 use Rattle.meaning.specs.Stream.{header, padded, answerRecord}

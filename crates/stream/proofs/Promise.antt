@@ -4,11 +4,12 @@
 --                                     written, and later bytes stay
 --     record-count                    as many records as input bytes divided by N, rounded up
 --     record-at                       record k, at its byte, is the answer to word k
---     alone                           record k depends on word k alone
+--     word-alone                      record k depends on word k alone
 --     record-read                     the numbers and strips of record k are what decoding word k answers and leaves in a buffer of 3N bytes
+--     record-said                     what 01 says of decoding, of record k
 --     record-more-read                word k with some erased symbols filled in: never less is known, by the two records
 --     record-lowered, record-raised   with another ceiling record k is the same in every byte, or that of 18
---     cut                             an input cut at a multiple of N: the parts, answered one after the other, give the same bytes
+--     cut-in-two                      an input cut at a multiple of N: the parts, answered one after the other, give the same bytes
 --     cut-records, cut-bytes          the records of any number of parts, all but the last of whole words, are those of the whole input
 --     cut-all                         and so are the bytes that a call for each part leaves: what `recover` writes, by runs of whole words and then
 --                                     the rest, are the bytes of one call on the whole input
@@ -31,11 +32,13 @@ use Rattle.bits.proofs.Records.{flatten-append, record-of}
 use Rattle.meaning.specs.Limits.{largestN, largestCeiling}
 use Rattle.meaning.specs.Sheet.{rules}
 use Rattle.meaning.specs.Open.{unknowns}
-use Rattle.meaning.specs.Answers.{numbersOf, Reply, isDone, leaving, writing, decoding}
-use Rattle.meaning.specs.Stream.{header, answerBytes, padded, answerRecord, refusedRecord, sizeOf, roundedUp, wordAt, records, streaming}
+use Rattle.meaning.specs.Answers.{numbersOf, Reply, isDone, reply, leaving, writing, decoding}
+use Rattle.meaning.specs.Stream.{header, answerBytes, padded, answerRecord, refusedRecord, nOf, roundedUp, wordAt, records, streaming}
 use Rattle.meaning.specs.declared.Answer.{Answer}
 use Rattle.meaning.specs.declared.Answer.the-variants.{Done, ShortOutput, TooMany}
+use Rattle.meaning.specs.Said.{Said}
 use Rattle.meaning.proofs.Determined.{reply-determined}
+use Rattle.meaning.proofs.Saying.{said}
 use Rattle.meaning.proofs.Cutting.{WholePieces, pieces-cut, cut-list, cut-flat}
 use Rattle.planning.specs.Filled.{filledIn}
 use Rattle.planning.specs.MoreKnown.{codeOf, formed, MoreKnown}
@@ -47,7 +50,7 @@ use Rattle.stream.proofs.Untouched.{untouched-record}
 use Rattle.stream.proofs.Counting.{records-words}
 use Rattle.stream.proofs.Streaming.{recordAt, records-wide}
 
-pub stream-determined : (s ch input out x x′ : List ℕ) (a a′ : Answer) → leaving x a ≡ streaming s ch input out → leaving x′ a′ ≡ streaming s ch input out → (a ≡ a′) × (x ≡ x′)
+pub stream-determined : (s ch input out x x′ : List ℕ) (a a′ : Answer) → reply x a ≡ streaming s ch input out → reply x′ a′ ≡ streaming s ch input out → (a ≡ a′) × (x ≡ x′)
 stream-determined s ch input out x x′ a a′ p q = reply-determined a a′ x x′ (streaming s ch input out) p q
 
 positive : (n : ℕ) → 0 < 2 ^ n
@@ -55,9 +58,9 @@ positive n = omega (arith, pow-pos n)
 
 -- ---- the records of an input whose sheet and choice have a right length
 
-module _ (s ch : List ℕ) (h : sizeOf s ≤ largestN) (two : length ch ≡ 2) where
+module _ (s ch : List ℕ) (h : nOf s ≤ largestN) (two : length ch ≡ 2) where
   abbrev n : ℕ
-  n = sizeOf s
+  n = nOf s
 
   -- the answer to a word
   abbrev pub answerTo : List ℕ → List ℕ
@@ -75,24 +78,24 @@ module _ (s ch : List ℕ) (h : sizeOf s ≤ largestN) (two : length ch ≡ 2) w
   -- ---- any result that is done
 
   -- the bytes of the records, and later bytes as found
-  pub written : (input out x : List ℕ) → leaving x Done ≡ streaming s ch input out → x ≡ flatten (records s ch input) ++ drop (length (flatten (records s ch input))) out
+  pub written : (input out x : List ℕ) → reply x Done ≡ streaming s ch input out → x ≡ flatten (records s ch input) ++ drop (length (flatten (records s ch input))) out
   unfolding streaming
   written input out x p = go (ltb (length out) (length (records s ch input) * answerBytes)) p
     where
-      go : (b : Bool) → leaving x Done ≡ pick b (leaving out ShortOutput) (writing (flatten (records s ch input)) out Done) → x ≡ flatten (records s ch input) ++ drop (length (flatten (records s ch input))) out
+      go : (b : Bool) → reply x Done ≡ pick b (leaving out ShortOutput) (writing (flatten (records s ch input)) out Done) → x ≡ flatten (records s ch input) ++ drop (length (flatten (records s ch input))) out
       go true q = absurd (true≢false (ap (λ (t : Reply). isDone (t .answer)) q))
       go false q = ap (λ (t : Reply). t .bytes) q
 
-  pub record-at : (input out x : List ℕ) → leaving x Done ≡ streaming s ch input out → (k : ℕ) → k < roundedUp (length input) (2 ^ n) → row answerBytes x k ≡ answerTo (wordAt n input k)
+  pub record-at : (input out x : List ℕ) → reply x Done ≡ streaming s ch input out → (k : ℕ) → k < roundedUp (length input) (2 ^ n) → row answerBytes x k ≡ answerTo (wordAt n input k)
   record-at input out x p k l =
       let lk : k < length (records s ch input) = omega (arith, l, record-count input) in
       ap (λ (t : List ℕ). row answerBytes t k) (written input out x p) ∙ record-of answerBytes (records s ch input) _ (records-wide s ch input) k lk
       ∙ ap (λ (t : List (List ℕ)). getD t k []) (records-words s ch input h two) ∙ tab-at (roundedUp (length input) (2 ^ n)) (recordAt n s (getD ch 0 0) (getD ch 1 0) input) k [] l
 
   -- two inputs with the same word k have the same record there
-  pub alone : (input out x input′ out′ x′ : List ℕ) → leaving x Done ≡ streaming s ch input out → leaving x′ Done ≡ streaming s ch input′ out′
+  pub word-alone : (input out x input′ out′ x′ : List ℕ) → reply x Done ≡ streaming s ch input out → reply x′ Done ≡ streaming s ch input′ out′
       → (k : ℕ) → k < roundedUp (length input) (2 ^ n) → k < roundedUp (length input′) (2 ^ n) → wordAt n input k ≡ wordAt n input′ k → row answerBytes x k ≡ row answerBytes x′ k
-  alone input out x input′ out′ x′ p p′ k l l′ e = record-at input out x p k l ∙ ap answerTo e ∙ sym (record-at input′ out′ x′ p′ k l′)
+  word-alone input out x input′ out′ x′ p p′ k l l′ e = record-at input out x p k l ∙ ap answerTo e ∙ sym (record-at input′ out′ x′ p′ k l′)
 
   -- ---- record k, read back
 
@@ -100,15 +103,22 @@ module _ (s ch : List ℕ) (h : sizeOf s ≤ largestN) (two : length ch ≡ 2) w
   abbrev pub decodedTo : List ℕ → Reply
   decodedTo w = decoding n s (getD ch 0 0) (getD ch 1 0) w (replicate (3 * 2 ^ n) 255)
 
-  pub record-read : (input out x : List ℕ) → leaving x Done ≡ streaming s ch input out → (k : ℕ) → k < roundedUp (length input) (2 ^ n)
+  pub record-read : (input out x : List ℕ) → reply x Done ≡ streaming s ch input out → (k : ℕ) → k < roundedUp (length input) (2 ^ n)
       → (numbersIn (row answerBytes x k) ≡ numbersOf (decodedTo (wordAt n input k) .answer)) × (stripsIn n (row answerBytes x k) ≡ decodedTo (wordAt n input k) .bytes)
   record-read input out x p k l =
       let e = record-at input out x p k l in
       let w : List ℕ = wordAt n input k in
       (ap numbersIn e ∙ numbers-off n s (getD ch 0 0) (getD ch 1 0) w h, ap (stripsIn n) e ∙ strips-off n s (getD ch 0 0) (getD ch 1 0) w h)
 
+  -- what 01 says, sentence by sentence, of record k and the strips' 255
+  pub record-said : (input out x : List ℕ) → reply x Done ≡ streaming s ch input out → (k : ℕ) → k < roundedUp (length input) (2 ^ n)
+      → Said n s (getD ch 0 0) (getD ch 1 0) (wordAt n input k) (replicate (3 * 2 ^ n) 255) (numbersIn (row answerBytes x k)) (stripsIn n (row answerBytes x k))
+  record-said input out x p k l =
+      let (v, b) = record-read input out x p k l in
+      rw (v, b) (said n s (getD ch 0 0) (getD ch 1 0) (wordAt n input k) (replicate (3 * 2 ^ n) 255))
+
   -- word k with more read; neither record is a refusal for any reason but 18
-  pub record-more-read : (input out x input′ out′ x′ : List ℕ) → leaving x Done ≡ streaming s ch input out → leaving x′ Done ≡ streaming s ch input′ out′
+  pub record-more-read : (input out x input′ out′ x′ : List ℕ) → reply x Done ≡ streaming s ch input out → reply x′ Done ≡ streaming s ch input′ out′
       → (k : ℕ) → k < roundedUp (length input) (2 ^ n) → k < roundedUp (length input′) (2 ^ n) → filledIn (wordAt n input k) (wordAt n input′ k) ≡ true
       → formed (numbersIn (row answerBytes x k)) ≡ true → formed (numbersIn (row answerBytes x′ k)) ≡ true
       → MoreKnown n (wordAt n input k) (wordAt n input′ k) (numbersIn (row answerBytes x k)) (stripsIn n (row answerBytes x k)) (numbersIn (row answerBytes x′ k)) (stripsIn n (row answerBytes x′ k))
@@ -121,26 +131,26 @@ module _ (s ch : List ℕ) (h : sizeOf s ≤ largestN) (two : length ch ≡ 2) w
   abbrev pub recordBytesOf : List ℕ → List ℕ → List ℕ
   recordBytesOf input x = take (roundedUp (length input) (2 ^ n) * answerBytes) x
 
-  records-bytes : (input out x : List ℕ) → leaving x Done ≡ streaming s ch input out → recordBytesOf input x ≡ flatten (records s ch input)
+  records-bytes : (input out x : List ℕ) → reply x Done ≡ streaming s ch input out → recordBytesOf input x ≡ flatten (records s ch input)
   records-bytes input out x p =
       let l : length (flatten (records s ch input)) ≡ roundedUp (length input) (2 ^ n) * answerBytes = length-flatten answerBytes (records s ch input) (records-wide s ch input) ∙ ap (λ (k : ℕ). k * answerBytes) (record-count input) in
       ap (recordBytesOf input) (written input out x p) ∙ take-at (flatten (records s ch input)) _ _ l
 
   -- an input cut behind m whole words: the parts, answered one after the other, give the same bytes
-  pub cut : (a b : List ℕ) (m : ℕ) → length a ≡ m * 2 ^ n → (out x outa xa outb xb : List ℕ)
-      → leaving x Done ≡ streaming s ch (a ++ b) out → leaving xa Done ≡ streaming s ch a outa → leaving xb Done ≡ streaming s ch b outb
+  pub cut-in-two : (a b : List ℕ) (m : ℕ) → length a ≡ m * 2 ^ n → (out x outa xa outb xb : List ℕ)
+      → reply x Done ≡ streaming s ch (a ++ b) out → reply xa Done ≡ streaming s ch a outa → reply xb Done ≡ streaming s ch b outb
       → recordBytesOf (a ++ b) x ≡ recordBytesOf a xa ++ recordBytesOf b xb
-  cut a b m la out x outa xa outb xb p pa pb =
+  cut-in-two a b m la out x outa xa outb xb p pa pb =
       records-bytes (a ++ b) out x p ∙ ap flatten (records-cut a b m la) ∙ flatten-append (records s ch a) (records s ch b)
       ∙ ap₂ {C = List ℕ} _++_ (sym (records-bytes a outa xa pa)) (sym (records-bytes b outb xb pb))
 
 -- ---- two choices with the same r, the ceiling of the second no lower
 
-module _ (s ch ch′ : List ℕ) (h : sizeOf s ≤ largestN) (two : length ch ≡ 2) (two′ : length ch′ ≡ 2)
+module _ (s ch ch′ : List ℕ) (h : nOf s ≤ largestN) (two : length ch ≡ 2) (two′ : length ch′ ≡ 2)
     (same : getD ch 0 0 ≡ getD ch′ 0 0) (up : getD ch 1 0 ≤ getD ch′ 1 0) (limit : getD ch′ 1 0 ≤ largestCeiling)
-    (input out x out′ x′ : List ℕ) (p : leaving x Done ≡ streaming s ch input out) (p′ : leaving x′ Done ≡ streaming s ch′ input out′) (k : ℕ) (l : k < roundedUp (length input) (2 ^ sizeOf s)) where
+    (input out x out′ x′ : List ℕ) (p : reply x Done ≡ streaming s ch input out) (p′ : reply x′ Done ≡ streaming s ch′ input out′) (k : ℕ) (l : k < roundedUp (length input) (2 ^ nOf s)) where
   abbrev size : ℕ
-  size = sizeOf s
+  size = nOf s
 
   abbrev word : List ℕ
   word = wordAt size input k
@@ -174,19 +184,19 @@ module _ (s ch ch′ : List ℕ) (h : sizeOf s ≤ largestN) (two : length ch �
 -- ---- a result that is not done
 
 -- too short an output is refused, and nothing is touched
-pub short-untouched : (s ch input out x : List ℕ) (a : Answer) → leaving x a ≡ streaming s ch input out → length out < length (records s ch input) * answerBytes → (a ≡ ShortOutput) × (x ≡ out)
+pub short-untouched : (s ch input out x : List ℕ) (a : Answer) → reply x a ≡ streaming s ch input out → length out < length (records s ch input) * answerBytes → (a ≡ ShortOutput) × (x ≡ out)
 unfolding streaming
 short-untouched s ch input out x a p l =
-    let q : leaving x a ≡ leaving out ShortOutput = p ∙ rw (lt-ltb (length out) (length (records s ch input) * answerBytes) l) in
+    let q : reply x a ≡ leaving out ShortOutput = p ∙ rw (lt-ltb (length out) (length (records s ch input) * answerBytes) l) in
     (ap (λ (t : Reply). t .answer) q, ap (λ (t : Reply). t .bytes) q)
 
 -- and else it is done
-pub room-done : (s ch input out x : List ℕ) (a : Answer) → leaving x a ≡ streaming s ch input out → length (records s ch input) * answerBytes ≤ length out → a ≡ Done
+pub room-done : (s ch input out x : List ℕ) (a : Answer) → reply x a ≡ streaming s ch input out → length (records s ch input) * answerBytes ≤ length out → a ≡ Done
 unfolding streaming
 room-done s ch input out x a p l = ap (λ (t : Reply). t .answer) p ∙ rw (le-ltb (length out) (length (records s ch input) * answerBytes) l)
 
 -- the bytes of the records, and later bytes as found
-pub room-written : (s ch input out x : List ℕ) (a : Answer) → leaving x a ≡ streaming s ch input out → length (records s ch input) * answerBytes ≤ length out
+pub room-written : (s ch input out x : List ℕ) (a : Answer) → reply x a ≡ streaming s ch input out → length (records s ch input) * answerBytes ≤ length out
     → x ≡ flatten (records s ch input) ++ drop (length (flatten (records s ch input))) out
 unfolding streaming
 room-written s ch input out x a p l = ap (λ (t : Reply). t .bytes) p ∙ rw (le-ltb (length out) (length (records s ch input) * answerBytes) l)
@@ -204,22 +214,22 @@ pub record Call (s ch : List ℕ) : Type 0 where
   pub after : List ℕ
   pub answer : Answer
   pub roomy : length (records s ch input) * answerBytes ≤ length found
-  pub promise : leaving after answer ≡ streaming s ch input found
+  pub promise : reply after answer ≡ streaming s ch input found
 
 -- the bytes of the records that it left
 abbrev pub left : {s ch : List ℕ} → Call s ch → List ℕ
 left {s} {ch} c = take (length (records s ch (c .input)) * answerBytes) (c .after)
 
-module _ (s ch : List ℕ) (h : sizeOf s ≤ largestN) (two : length ch ≡ 2) where
+module _ (s ch : List ℕ) (h : nOf s ≤ largestN) (two : length ch ≡ 2) where
   -- the records of the parts, one after the other
-  pub cut-records : (parts : List (List ℕ)) (last : List ℕ) → WholeWords (2 ^ sizeOf s) parts
+  pub cut-records : (parts : List (List ℕ)) (last : List ℕ) → WholeWords (2 ^ nOf s) parts
       → records s ch (flatten parts ++ last) ≡ flatten (map (records s ch) parts) ++ records s ch last
-  cut-records = cut-list (2 ^ sizeOf s) (positive (sizeOf s)) (answerTo s ch h two) (records s ch) (λ i. records-words s ch i h two)
+  cut-records = cut-list (2 ^ nOf s) (positive (nOf s)) (answerTo s ch h two) (records s ch) (λ i. records-words s ch i h two)
 
   -- their bytes
-  pub cut-bytes : (parts : List (List ℕ)) (last : List ℕ) → WholeWords (2 ^ sizeOf s) parts
+  pub cut-bytes : (parts : List (List ℕ)) (last : List ℕ) → WholeWords (2 ^ nOf s) parts
       → flatten (records s ch (flatten parts ++ last)) ≡ flatten (map (λ (a : List ℕ). flatten (records s ch a)) parts) ++ flatten (records s ch last)
-  cut-bytes = cut-flat (2 ^ sizeOf s) (positive (sizeOf s)) (answerTo s ch h two) (records s ch) (λ i. records-words s ch i h two)
+  cut-bytes = cut-flat (2 ^ nOf s) (positive (nOf s)) (answerTo s ch h two) (records s ch) (λ i. records-words s ch i h two)
 
   -- what a call leaves
   left-bytes : (c : Call s ch) → left c ≡ flatten (records s ch (c .input))
@@ -233,7 +243,7 @@ module _ (s ch : List ℕ) (h : sizeOf s ≤ largestN) (two : length ch ≡ 2) w
   all-left (c ∷ calls) = ap₂ {C = List ℕ} _++_ (sym (left-bytes c)) (all-left calls)
 
   -- runs of whole words and then the rest, a call for each: what the calls leave, one after the other, is what one call on the whole input leaves
-  pub cut-all : (parts : List (Call s ch)) (last whole : Call s ch) → WholeWords (2 ^ sizeOf s) (map (λ (c : Call s ch). c .input) parts)
+  pub cut-all : (parts : List (Call s ch)) (last whole : Call s ch) → WholeWords (2 ^ nOf s) (map (λ (c : Call s ch). c .input) parts)
       → whole .input ≡ flatten (map (λ (c : Call s ch). c .input) parts) ++ last .input
       → left whole ≡ flatten (map left parts) ++ left last
   cut-all parts last whole w e =

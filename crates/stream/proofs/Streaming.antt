@@ -19,7 +19,7 @@ use Rattle.bits.proofs.RowLaws.{length-flatten}
 use Rattle.bits.proofs.Records.{flatten-one, wide-tab}
 use Rattle.meaning.specs.Limits.{largestN, stripWidth}
 use Rattle.meaning.specs.Answers.{Reply, leaving, decoding}
-use Rattle.meaning.specs.Stream.{header, answerBytes, answerRecord, refusedRecord, sizeOf, roundedUp, wordAt, records, streaming}
+use Rattle.meaning.specs.Stream.{header, answerBytes, answerRecord, refusedRecord, nOf, roundedUp, wordAt, records, streaming}
 use Rattle.meaning.specs.declared.Answer.{Answer}
 use Rattle.meaning.specs.declared.Answer.the-variants.{Done, BadShape, BadCheck, ShortOutput}
 use Rattle.meaning.proofs.Heading.{header-long}
@@ -48,13 +48,13 @@ unfolding refusedRecord answerBytes
 refused-long a = length-append (header a) _ ∙ ap₂ _+_ (header-long a) (length-replicate {A = ℕ} (3 * stripWidth) 255)
 
 pub records-wide : (s ch input : List ℕ) → Wide answerBytes (records s ch input)
-records-wide s ch input = go (le-or-lt (sizeOf s) largestN) (eq-or-ne (length ch) 2)
+records-wide s ch input = go (le-or-lt (nOf s) largestN) (eq-or-ne (length ch) 2)
   where
-    go : (sizeOf s ≤ largestN) ⊎ (largestN < sizeOf s) → (length ch ≡ 2) ⊎ (length ch ≡ 2 → ⊥) → Wide answerBytes (records s ch input)
+    go : (nOf s ≤ largestN) ⊎ (largestN < nOf s) → (length ch ≡ 2) ⊎ (length ch ≡ 2 → ⊥) → Wide answerBytes (records s ch input)
     go (inr h) e = rw (records-shape s ch input h) (refused-long BadShape, tt)
     go (inl h) (inr e) = rw (records-choice s ch input h e) (refused-long BadCheck, tt)
     go (inl h) (inl e) =
-        rw (records-words s ch input h e) (wide-tab answerBytes (roundedUp (length input) (2 ^ sizeOf s)) (recordAt (sizeOf s) s (getD ch 0 0) (getD ch 1 0) input) (λ i. record-long (sizeOf s) s (getD ch 0 0) (getD ch 1 0) (wordAt (sizeOf s) input i) h))
+        rw (records-words s ch input h e) (wide-tab answerBytes (roundedUp (length input) (2 ^ nOf s)) (recordAt (nOf s) s (getD ch 0 0) (getD ch 1 0) input) (λ i. record-long (nOf s) s (getD ch 0 0) (getD ch 1 0) (wordAt (nOf s) input i) h))
 
 -- ---- the call
 
@@ -81,7 +81,7 @@ module _ (s ch input out : List ℕ) (k : ℕ) (ek : k ≡ length (records s ch 
 
 -- ---- the records, case by case, for the n that the code finds
 
-module _ (s ch input out : List ℕ) (n : ℕ) (en : n ≡ sizeOf s) (k : ℕ) (ek : k ≡ length (records s ch input)) where
+module _ (s ch input out : List ℕ) (n : ℕ) (en : n ≡ nOf s) (k : ℕ) (ek : k ≡ length (records s ch input)) where
   -- one record alone, where there is room for it
   alone : (x : List ℕ) (a : Answer) → records s ch input ≡ refusedRecord a ∷ [] → x ≡ refusedRecord a → x ++ postOf 0 (answerBytes - 0) out ≡ flatten (records s ch input) ++ drop (k * answerBytes) out
   alone x a e ex =

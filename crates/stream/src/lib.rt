@@ -6,30 +6,22 @@ ghost use Prim.Native.Nat.{ℕ, _*_, _^_, _≤_};
 ghost use lib.ListN.{length, drop};
 ghost use Rattle.bits.specs.Vectors.{tab};
 ghost use Rattle.meaning.specs.Limits.{largestN};
-ghost use Rattle.meaning.specs.Answers.{leaving};
-ghost use Rattle.meaning.specs.Stream.{answerBytes, answerRecord, sizeOf, roundedUp, wordAt, records, streaming};
+ghost use Rattle.meaning.specs.Answers.{reply};
+ghost use Rattle.meaning.specs.Stream.{answerBytes, answerRecord, nOf, roundedUp, wordAt, records, streaming};
 
 mod record;
 
+use answers::pieces;
 use meaning::Answer;
 use meaning::limits;
-use meaning::pieces;
-
-// N, 2 to the n.
-fn size_of(n: usize) -> usize
-    requires { ⌜ n ≤ largestN ⌝ }
-    ensures { λ r. ⌜ r ≡ 2 ^ n ⌝ }
-{
-    1 << n
-}
 
 // The n of a sheet of N = 2 to the n records, from its length; 10 where no n up to 9 has such a sheet.
-pub fn size(sheet: &[u8]) -> usize
-    ensures { λ r. ⌜ r ≡ sizeOf (now (sheet .entry)) ⌝ }
+pub fn n_of(sheet: &[u8]) -> usize
+    ensures { λ r. ⌜ r ≡ nOf (now (sheet .entry)) ⌝ }
 {
     let mut n = 0;
     while n <= limits::LARGEST_N {
-        if sheet.len() == size_of(n) * limits::RECORD {
+        if sheet::recorded(n, sheet.len()) {
             return n;
         }
         n += 1;
@@ -42,14 +34,14 @@ pub fn size(sheet: &[u8]) -> usize
 pub fn records(sheet: &[u8], choice: &[u8], input: &[u8]) -> usize
     ensures { λ r. ⌜ r ≡ length (records (now (sheet .entry)) (now (choice .entry)) (now (input .entry))) ⌝ }
 {
-    let n = size(sheet);
+    let n = n_of(sheet);
     if limits::LARGEST_N < n {
         return 1;
     }
     if choice.len() != 2 {
         return 1;
     }
-    pieces::count(input.len(), size_of(n))
+    pieces::count(input.len(), sheet::size(n))
 }
 
 // Writes the records of k words, one after the other.
@@ -57,7 +49,7 @@ fn words(n: usize, sheet: &[u8], r: usize, ceiling: usize, input: &[u8], k: usiz
     requires { ⌜ (n ≤ largestN) × (k ≡ roundedUp (length (now input)) (2 ^ n)) × (k * answerBytes ≤ length (now out)) ⌝ }
     ensures { λ _. ⌜ now (out .exit) ≡ flatten (tab k (λ (i : ℕ). answerRecord n (now (sheet .entry)) r ceiling (wordAt n (now (input .entry)) i))) ++ drop (k * answerBytes) (now (out .entry)) ⌝ }
 {
-    let size = size_of(n);
+    let size = sheet::size(n);
     let mut i = 0;
     while i < k {
         let from = i * size;
@@ -80,7 +72,7 @@ fn write(sheet: &[u8], choice: &[u8], input: &[u8], k: usize, out: &mut [u8])
     requires { ⌜ (k ≡ length (records (now sheet) (now choice) (now input))) × (k * answerBytes ≤ length (now out)) ⌝ }
     ensures { λ _. ⌜ now (out .exit) ≡ flatten (records (now (sheet .entry)) (now (choice .entry)) (now (input .entry))) ++ drop (k * answerBytes) (now (out .entry)) ⌝ }
 {
-    let n = size(sheet);
+    let n = n_of(sheet);
     if limits::LARGEST_N < n {
         record::refuse(Answer::BadShape, &mut out[0..limits::ANSWER]);
     } else if choice.len() != 2 {
@@ -107,7 +99,7 @@ fn write(sheet: &[u8], choice: &[u8], input: &[u8], k: usize, out: &mut [u8])
 // Answers Done, later bytes as found; or ShortOutput (16), before all else, where the output is too short for the records,
 // and leaves it as found.
 pub fn answer(sheet: &[u8], choice: &[u8], input: &[u8], out: &mut [u8]) -> Answer
-    ensures { λ a. ⌜ leaving (now (out .exit)) a ≡ streaming (now (sheet .entry)) (now (choice .entry)) (now (input .entry)) (now (out .entry)) ⌝ }
+    ensures { λ a. ⌜ reply (now (out .exit)) a ≡ streaming (now (sheet .entry)) (now (choice .entry)) (now (input .entry)) (now (out .entry)) ⌝ }
 {
     let k = records(sheet, choice, input);
     if out.len() / limits::ANSWER < k {

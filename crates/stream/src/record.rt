@@ -6,7 +6,6 @@ ghost use lib.ListN.{length, replicate};
 ghost use Rattle.meaning.specs.Limits.{largestN, stripWidth};
 ghost use Rattle.meaning.specs.Stream.{header, answerBytes, answerRecord, refusedRecord};
 ghost use Rattle.stream.specs.Laying.{laid};
-use crate::size_of;
 use meaning::Answer;
 use meaning::limits;
 
@@ -38,7 +37,7 @@ fn put(a: Answer, strips: &[u8], out: &mut [u8])
     requires { ⌜ (length (now strips) ≡ 3 * stripWidth) × (length (now out) ≡ answerBytes) ⌝ }
     ensures { λ _. ⌜ now (out .exit) ≡ header a ++ now (strips .entry) ⌝ }
 {
-    bytes::copy(&meaning::header(a), out);
+    bytes::copy(&answers::header(a), out);
     bytes::copy(strips, &mut out[limits::HEAD..]);
 }
 
@@ -65,7 +64,7 @@ fn answer_in(
     ensures { λ _. ⌜ now (out .exit) ≡ answerRecord n (now (sheet .entry)) r ceiling (now (word .entry)) ⌝ }
 {
     let a = decoder::decode(n, sheet, r, ceiling, word, found);
-    lay(found, size_of(n), strips);
+    lay(found, sheet::size(n), strips);
     put(a, strips, out);
 }
 
@@ -76,7 +75,7 @@ pub fn answer(n: usize, sheet: &[u8], r: usize, ceiling: usize, word: &[u8], out
 {
     let mut found = blank();
     let mut strips = blank();
-    let size = size_of(n);
+    let size = sheet::size(n);
     answer_in(
         n,
         sheet,

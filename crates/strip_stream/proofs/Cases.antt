@@ -16,7 +16,7 @@ use Rattle.bits.specs.Rows.{Wide}
 use Rattle.bits.proofs.Tests.{length-tab}
 use Rattle.bits.proofs.Records.{wide-tab}
 use Rattle.meaning.specs.Limits.{largestN, headBytes}
-use Rattle.meaning.specs.Stream.{header, sizeOf, roundedUp}
+use Rattle.meaning.specs.Stream.{header, nOf, roundedUp}
 use Rattle.meaning.specs.declared.Answer.{Answer}
 use Rattle.meaning.specs.declared.Answer.the-variants.{BadShape, BadCheck}
 use Rattle.meaning.proofs.Heading.{header-long}
@@ -26,18 +26,18 @@ use Rattle.strip_stream.specs.Strips.{stripBytes, partBytes, stripReply,
 -- ---- by case
 
 module _ {A : Type 0} (s ch : List ℕ) (x y z : A) where
-  case-shape : largestN < sizeOf s → byCase s ch x y z ≡ x
-  case-shape h = rw (lt-ltb largestN (sizeOf s) h)
+  case-shape : largestN < nOf s → byCase s ch x y z ≡ x
+  case-shape h = rw (lt-ltb largestN (nOf s) h)
 
-  case-choice : sizeOf s ≤ largestN → (length ch ≡ 2 → ⊥) → byCase s ch x y z ≡ y
-  case-choice h e = rw (le-ltb largestN (sizeOf s) h, ne-eqb (length ch) 2 e)
+  case-choice : nOf s ≤ largestN → (length ch ≡ 2 → ⊥) → byCase s ch x y z ≡ y
+  case-choice h e = rw (le-ltb largestN (nOf s) h, ne-eqb (length ch) 2 e)
 
-  case-right : sizeOf s ≤ largestN → length ch ≡ 2 → byCase s ch x y z ≡ z
-  case-right h e = rw (le-ltb largestN (sizeOf s) h, eq-eqb (length ch) 2 e)
+  case-right : nOf s ≤ largestN → length ch ≡ 2 → byCase s ch x y z ≡ z
+  case-right h e = rw (le-ltb largestN (nOf s) h, eq-eqb (length ch) 2 e)
 
   -- a fact of each case is one of all
   case-all : (P : A → Type 0) → P x → P y → P z → P (byCase s ch x y z)
-  case-all P p q r = go (ltb largestN (sizeOf s)) (not (eqb (length ch) 2))
+  case-all P p q r = go (ltb largestN (nOf s)) (not (eqb (length ch) 2))
     where
       go : (b c : Bool) → P (pick b x (pick c y z))
       go true c = p
@@ -45,7 +45,7 @@ module _ {A : Type 0} (s ch : List ℕ) (x y z : A) where
       go false false = r
 
   case-map : {B : Type 0} (f : A → B) → f (byCase s ch x y z) ≡ byCase s ch (f x) (f y) (f z)
-  case-map {B} f = go (ltb largestN (sizeOf s)) (not (eqb (length ch) 2))
+  case-map {B} f = go (ltb largestN (nOf s)) (not (eqb (length ch) 2))
     where
       go : (b c : Bool) → f (pick b x (pick c y z)) ≡ pick b (f x) (pick c (f y) (f z))
       go true c = refl
@@ -65,11 +65,11 @@ pub record Right (s ch lost input : List ℕ) : Type 0 where
   pub each : partCount s ch input ≡ stripCount s input
 
 module _ (s ch lost input : List ℕ) where
-  pub alone-shape : largestN < sizeOf s → Alone s ch lost input BadShape
+  pub alone-shape : largestN < nOf s → Alone s ch lost input BadShape
   unfolding headers parts recordCount partCount
   alone-shape h = record { headed = case-shape s ch _ _ _ h; parted = case-shape s ch _ _ _ h; one = case-shape s ch _ _ _ h; none = case-shape s ch _ _ _ h }
 
-  module _ (h : sizeOf s ≤ largestN) where
+  module _ (h : nOf s ≤ largestN) where
     pub alone-choice : (length ch ≡ 2 → ⊥) → Alone s ch lost input BadCheck
     unfolding headers parts recordCount partCount
     alone-choice e = record { headed = case-choice s ch _ _ _ h e; parted = case-choice s ch _ _ _ h e; one = case-choice s ch _ _ _ h e; none = case-choice s ch _ _ _ h e }
@@ -79,7 +79,7 @@ module _ (s ch lost input : List ℕ) where
     right e = record { headed = case-right s ch _ _ _ h e; parted = case-right s ch _ _ _ h e; many = case-right s ch _ _ _ h e; each = case-right s ch _ _ _ h e }
 
 -- how many, for the n that the code finds; `alone` where a length is wrong
-module _ (s ch input : List ℕ) (alone n : ℕ) (en : n ≡ sizeOf s) where
+module _ (s ch input : List ℕ) (alone n : ℕ) (en : n ≡ nOf s) where
   pub many-shape : largestN < n → alone ≡ byCase s ch alone alone (stripCount s input)
   many-shape h = sym (case-shape s ch alone alone (stripCount s input) (rw (← en) h))
 
@@ -112,11 +112,11 @@ module _ (s ch lost input : List ℕ) where
       case-all s ch _ _ _ (Wide headBytes) (header-long BadShape, tt) (header-long BadCheck, tt)
       (wide-tab headBytes (stripCount s input) (λ (k : ℕ). header ((replyAt s ch lost input k) .answer)) (λ k. header-long ((replyAt s ch lost input k) .answer)))
 
-  pub parts-wide : Wide (partBytes (sizeOf s)) (parts s ch lost input)
+  pub parts-wide : Wide (partBytes (nOf s)) (parts s ch lost input)
   unfolding parts
   parts-wide =
-      case-all s ch _ _ _ (Wide (partBytes (sizeOf s))) tt tt
-      (wide-tab (partBytes (sizeOf s)) (stripCount s input) (λ (k : ℕ). (replyAt s ch lost input k) .bytes) (λ k. reply-long (sizeOf s) s _ _ lost _))
+      case-all s ch _ _ _ (Wide (partBytes (nOf s))) tt tt
+      (wide-tab (partBytes (nOf s)) (stripCount s input) (λ (k : ℕ). (replyAt s ch lost input k) .bytes) (λ k. reply-long (nOf s) s _ _ lost _))
 
   pub headers-many : length (headers s ch lost input) ≡ recordCount s ch input
   unfolding headers recordCount

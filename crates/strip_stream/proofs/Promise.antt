@@ -5,7 +5,7 @@
 --     record-count, part-count          as many records and parts as input bytes divided by 64N, rounded up
 --     record-at, part-at                record k and part k, each at its byte, are the reply to strip k
 --     untouched                         where repairing leaves its output untouched, all of the part is 255
---     alone                             record k and part k depend on strip k alone
+--     strip-alone                       record k and part k depend on strip k alone
 --     cut-all                           an input cut at multiples of 64N: the parts, answered one after the other, leave the same bytes in both buffers
 use mathlib.Core.Path.{_≡_, refl, sym, ap, ap₂, _∙_}
 use mathlib.Core.Logic.{_⊎_, inl, inr}
@@ -22,7 +22,7 @@ use Rattle.bits.proofs.Tests.{tab-at}
 use Rattle.bits.proofs.Records.{record-of}
 use Rattle.meaning.specs.Limits.{largestN, headBytes}
 use Rattle.meaning.specs.Answers.{Reply, leaving}
-use Rattle.meaning.specs.Stream.{header, sizeOf, pieceAt}
+use Rattle.meaning.specs.Stream.{header, nOf, pieceAt}
 use Rattle.meaning.specs.declared.Answer.{Answer}
 use Rattle.meaning.specs.declared.Answer.the-variants.{Done, ShortOutput}
 use Rattle.meaning.proofs.Determined.{determined}
@@ -45,23 +45,23 @@ module _ (s ch lost input repaired records : List ℕ) where
     alike x′ y′ a′ e = strips-determined x y x′ y′ a a′ p (sym e)
 
     -- too short a buffer is refused, and nothing is touched
-    pub short-untouched : (length records < recordCount s ch input * headBytes) ⊎ (length repaired < partCount s ch input * partBytes (sizeOf s))
+    pub short-untouched : (length records < recordCount s ch input * headBytes) ⊎ (length repaired < partCount s ch input * partBytes (nOf s))
         → (a ≡ ShortOutput) × (x ≡ repaired) × (y ≡ records)
     short-untouched h = alike repaired records ShortOutput (go (ltb (length records) (recordCount s ch input * headBytes)) refl h)
       where
-        go : (b : Bool) → ltb (length records) (recordCount s ch input * headBytes) ≡ b → (length records < recordCount s ch input * headBytes) ⊎ (length repaired < partCount s ch input * partBytes (sizeOf s))
+        go : (b : Bool) → ltb (length records) (recordCount s ch input * headBytes) ≡ b → (length records < recordCount s ch input * headBytes) ⊎ (length repaired < partCount s ch input * partBytes (nOf s))
             → answeringStrips s ch lost input repaired records ≡ leavingBoth repaired records ShortOutput
         go true e q = sym (short-records s ch lost input repaired records e)
         go false e (inl q) = absurd (true≢false (sym (lt-ltb (length records) (recordCount s ch input * headBytes) q) ∙ e))
-        go false e (inr q) = sym (short-repaired s ch lost input repaired records e (lt-ltb (length repaired) (partCount s ch input * partBytes (sizeOf s)) q))
+        go false e (inr q) = sym (short-repaired s ch lost input repaired records e (lt-ltb (length repaired) (partCount s ch input * partBytes (nOf s)) q))
 
     -- and else the records and parts are written, and later bytes are as found
-    pub room-written : recordCount s ch input * headBytes ≤ length records → partCount s ch input * partBytes (sizeOf s) ≤ length repaired
-        → (a ≡ Done) × (x ≡ flatten (parts s ch lost input) ++ drop (partCount s ch input * partBytes (sizeOf s)) repaired)
+    pub room-written : recordCount s ch input * headBytes ≤ length records → partCount s ch input * partBytes (nOf s) ≤ length repaired
+        → (a ≡ Done) × (x ≡ flatten (parts s ch lost input) ++ drop (partCount s ch input * partBytes (nOf s)) repaired)
         × (y ≡ flatten (headers s ch lost input) ++ drop (recordCount s ch input * headBytes) records)
     room-written h q =
         alike _ _ Done
-        (sym (answered s ch lost input repaired records (le-ltb (length records) (recordCount s ch input * headBytes) h) (le-ltb (length repaired) (partCount s ch input * partBytes (sizeOf s)) q) _ _ refl refl))
+        (sym (answered s ch lost input repaired records (le-ltb (length records) (recordCount s ch input * headBytes) h) (le-ltb (length repaired) (partCount s ch input * partBytes (nOf s)) q) _ _ refl refl))
 
 -- ---- calls with room
 
@@ -74,7 +74,7 @@ pub record Call (s ch lost : List ℕ) : Type 0 where
   pub records : List ℕ
   pub answer : Answer
   pub roomyRecords : recordCount s ch input * headBytes ≤ length foundRecords
-  pub roomyRepaired : partCount s ch input * partBytes (sizeOf s) ≤ length foundRepaired
+  pub roomyRepaired : partCount s ch input * partBytes (nOf s) ≤ length foundRepaired
   pub promise : leavingBoth repaired records answer ≡ answeringStrips s ch lost input foundRepaired foundRecords
 
 -- the bytes of the records and of the parts that it left
@@ -82,7 +82,7 @@ abbrev pub recordsLeft : {s ch lost : List ℕ} → Call s ch lost → List ℕ
 recordsLeft {s} {ch} c = take (recordCount s ch (c .input) * headBytes) (c .records)
 
 abbrev pub partsLeft : {s ch lost : List ℕ} → Call s ch lost → List ℕ
-partsLeft {s} {ch} c = take (partCount s ch (c .input) * partBytes (sizeOf s)) (c .repaired)
+partsLeft {s} {ch} c = take (partCount s ch (c .input) * partBytes (nOf s)) (c .repaired)
 
 module _ {s ch lost : List ℕ} (c : Call s ch lost) where
   abbrev hs : List (List ℕ)
@@ -91,7 +91,7 @@ module _ {s ch lost : List ℕ} (c : Call s ch lost) where
   abbrev ps : List (List ℕ)
   ps = parts s ch lost (c .input)
 
-  wrote : (c .answer ≡ Done) × (c .repaired ≡ flatten ps ++ drop (partCount s ch (c .input) * partBytes (sizeOf s)) (c .foundRepaired))
+  wrote : (c .answer ≡ Done) × (c .repaired ≡ flatten ps ++ drop (partCount s ch (c .input) * partBytes (nOf s)) (c .foundRepaired))
       × (c .records ≡ flatten hs ++ drop (recordCount s ch (c .input) * headBytes) (c .foundRecords))
   wrote = room-written s ch lost (c .input) (c .foundRepaired) (c .foundRecords) (c .repaired) (c .records) (c .answer) (c .promise) (c .roomyRecords) (c .roomyRepaired)
 
@@ -99,13 +99,13 @@ module _ {s ch lost : List ℕ} (c : Call s ch lost) where
   records-left = ap (take (recordCount s ch (c .input) * headBytes)) (wrote .2) ∙ take-at (flatten hs) _ (recordCount s ch (c .input) * headBytes) (headers-bytes s ch lost (c .input))
 
   parts-left : partsLeft c ≡ flatten ps
-  parts-left = ap (take (partCount s ch (c .input) * partBytes (sizeOf s))) (wrote .1) ∙ take-at (flatten ps) _ (partCount s ch (c .input) * partBytes (sizeOf s)) (parts-bytes s ch lost (c .input))
+  parts-left = ap (take (partCount s ch (c .input) * partBytes (nOf s))) (wrote .1) ∙ take-at (flatten ps) _ (partCount s ch (c .input) * partBytes (nOf s)) (parts-bytes s ch lost (c .input))
 
 -- ---- where the sheet and the choice have a right length
 
-module _ (s ch lost : List ℕ) (h : sizeOf s ≤ largestN) (two : length ch ≡ 2) where
+module _ (s ch lost : List ℕ) (h : nOf s ≤ largestN) (two : length ch ≡ 2) where
   abbrev n : ℕ
-  n = sizeOf s
+  n = nOf s
 
   -- the reply to a strip
   abbrev pub replyTo : List ℕ → Reply
@@ -137,9 +137,9 @@ module _ (s ch lost : List ℕ) (h : sizeOf s ≤ largestN) (two : length ch ≡
     untouched a e = (record-at ∙ ap (λ (t : Reply). header (t .answer)) e, part-at ∙ ap (λ (t : Reply). t .bytes) e)
 
   -- two inputs with the same strip k have the same record and the same part there
-  pub alone : (c d : Call s ch lost) (k : ℕ) → k < stripCount s (c .input) → k < stripCount s (d .input) → pieceAt (stripBytes n) (c .input) k ≡ pieceAt (stripBytes n) (d .input) k
+  pub strip-alone : (c d : Call s ch lost) (k : ℕ) → k < stripCount s (c .input) → k < stripCount s (d .input) → pieceAt (stripBytes n) (c .input) k ≡ pieceAt (stripBytes n) (d .input) k
       → (row headBytes (c .records) k ≡ row headBytes (d .records) k) × (row (partBytes n) (c .repaired) k ≡ row (partBytes n) (d .repaired) k)
-  alone c d k l m e =
+  strip-alone c d k l m e =
       (record-at c k l ∙ ap (λ (w : List ℕ). header ((replyTo w) .answer)) e ∙ sym (record-at d k m), part-at c k l ∙ ap (λ (w : List ℕ). (replyTo w) .bytes) e ∙ sym (part-at d k m))
 
   -- the bytes of the records and of the parts of an input in parts, all but the last of whole strips

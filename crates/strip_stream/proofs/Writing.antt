@@ -20,8 +20,8 @@ use Rattle.bits.specs.Vectors.{tab}
 use Rattle.bits.proofs.RowLaws.{length-flatten}
 use Rattle.bits.proofs.Records.{flatten-one}
 use Rattle.meaning.specs.Limits.{headBytes}
-use Rattle.meaning.specs.Answers.{Reply, leaving}
-use Rattle.meaning.specs.Stream.{header, sizeOf, roundedUp, pieceAt}
+use Rattle.meaning.specs.Answers.{Reply, reply}
+use Rattle.meaning.specs.Stream.{header, nOf, roundedUp, pieceAt}
 use Rattle.meaning.specs.declared.Answer.{Answer}
 use Rattle.meaning.specs.declared.Answer.the-variants.{Done, ShortOutput}
 use Rattle.meaning.proofs.Heading.{header-long}
@@ -43,7 +43,7 @@ put-whole a head x l e =
     e ∙ ap (λ (t : List ℕ). header a ++ t) (drop-of-length-le head h) ∙ append-nil (header a)
 
 pub replied : (n : ℕ) (s : List ℕ) (r c : ℕ) (lost strip part blank x : List ℕ) (a : Answer) → length part ≡ partBytes n → blank ≡ replicate (length part) 255
-    → leaving x a ≡ repairing n s r c strip lost blank → leaving x a ≡ stripReply n s r c lost strip
+    → reply x a ≡ repairing n s r c strip lost blank → reply x a ≡ stripReply n s r c lost strip
 unfolding stripReply
 replied n s r c lost strip part blank x a l e p = p ∙ ap (repairing n s r c strip lost) (e ∙ ap (λ (k : ℕ). replicate k 255) l)
 
@@ -53,8 +53,8 @@ module _ (s ch lost input : List ℕ) where
   pub headers-bytes : length (flatten (headers s ch lost input)) ≡ recordCount s ch input * headBytes
   headers-bytes = length-flatten headBytes (headers s ch lost input) (headers-wide s ch lost input) ∙ ap (λ (k : ℕ). k * headBytes) (headers-many s ch lost input)
 
-  pub parts-bytes : length (flatten (parts s ch lost input)) ≡ partCount s ch input * partBytes (sizeOf s)
-  parts-bytes = length-flatten (partBytes (sizeOf s)) (parts s ch lost input) (parts-wide s ch lost input) ∙ ap (λ (k : ℕ). k * partBytes (sizeOf s)) (parts-many s ch lost input)
+  pub parts-bytes : length (flatten (parts s ch lost input)) ≡ partCount s ch input * partBytes (nOf s)
+  parts-bytes = length-flatten (partBytes (nOf s)) (parts s ch lost input) (parts-wide s ch lost input) ∙ ap (λ (k : ℕ). k * partBytes (nOf s)) (parts-many s ch lost input)
 
 -- ---- one record alone
 
@@ -67,35 +67,35 @@ module _ {s ch lost input : List ℕ} {a : Answer} (p : Alone s ch lost input a)
       let j : headBytes ≡ recordCount s ch input * headBytes = (let q : headBytes ≡ 1 * headBytes = omega arith in q) ∙ ap (λ (k : ℕ). k * headBytes) (sym (p .one)) in
       e ∙ ap₂ {C = List ℕ} (λ t i. t ++ drop i records) (sym (ap flatten (p .headed) ∙ flatten-one (header a))) j
 
-  pub alone-repaired : (repaired : List ℕ) → repaired ≡ flatten (parts s ch lost input) ++ drop (partCount s ch input * partBytes (sizeOf s)) repaired
+  pub alone-repaired : (repaired : List ℕ) → repaired ≡ flatten (parts s ch lost input) ++ drop (partCount s ch input * partBytes (nOf s)) repaired
   unfolding flatten
-  alone-repaired repaired = sym (ap₂ {C = List ℕ} (λ t k. flatten t ++ drop (k * partBytes (sizeOf s)) repaired) (p .parted) (p .none) ∙ ap (λ (k : ℕ). drop k repaired) (zero-mul (partBytes (sizeOf s))))
+  alone-repaired repaired = sym (ap₂ {C = List ℕ} (λ t k. flatten t ++ drop (k * partBytes (nOf s)) repaired) (p .parted) (p .none) ∙ ap (λ (k : ℕ). drop k repaired) (zero-mul (partBytes (nOf s))))
 
 -- ---- a record and a part for each strip, for the n that the code finds
 
-module _ {s ch lost input : List ℕ} (p : Right s ch lost input) (n k : ℕ) (en : n ≡ sizeOf s) (ek : k ≡ roundedUp (length input) (stripBytes n)) where
-  abbrev reply : ℕ → ℕ → Reply
-  reply m i = stripReply m s (getD ch 0 0) (getD ch 1 0) lost (pieceAt (stripBytes m) input i)
+module _ {s ch lost input : List ℕ} (p : Right s ch lost input) (n k : ℕ) (en : n ≡ nOf s) (ek : k ≡ roundedUp (length input) (stripBytes n)) where
+  abbrev replyTo : ℕ → ℕ → Reply
+  replyTo m i = stripReply m s (getD ch 0 0) (getD ch 1 0) lost (pieceAt (stripBytes m) input i)
 
-  counted : k ≡ roundedUp (length input) (stripBytes (sizeOf s))
+  counted : k ≡ roundedUp (length input) (stripBytes (nOf s))
   counted = ek ∙ ap (λ (m : ℕ). roundedUp (length input) (stripBytes m)) en
 
-  pub each-room : (l m : ℕ) → recordCount s ch input * headBytes ≤ l → partCount s ch input * partBytes (sizeOf s) ≤ m → (k * partBytes n ≤ m) × (k * headBytes ≤ l)
+  pub each-room : (l m : ℕ) → recordCount s ch input * headBytes ≤ l → partCount s ch input * partBytes (nOf s) ≤ m → (k * partBytes n ≤ m) × (k * headBytes ≤ l)
   each-room l m h q = (rw (en, counted, ← p .each) q, rw (counted, ← p .many) h)
 
-  pub each-records : (records x : List ℕ) → x ≡ flatten (tab k (λ (i : ℕ). header ((reply n i) .answer))) ++ drop (k * headBytes) records
+  pub each-records : (records x : List ℕ) → x ≡ flatten (tab k (λ (i : ℕ). header ((replyTo n i) .answer))) ++ drop (k * headBytes) records
       → x ≡ flatten (headers s ch lost input) ++ drop (recordCount s ch input * headBytes) records
   each-records records x e =
-      e ∙ ap (λ (m : ℕ). flatten (tab k (λ (i : ℕ). header ((reply m i) .answer))) ++ drop (k * headBytes) records) en
-      ∙ ap (λ (j : ℕ). flatten (tab j (λ (i : ℕ). header ((reply (sizeOf s) i) .answer))) ++ drop (j * headBytes) records) counted
+      e ∙ ap (λ (m : ℕ). flatten (tab k (λ (i : ℕ). header ((replyTo m i) .answer))) ++ drop (k * headBytes) records) en
+      ∙ ap (λ (j : ℕ). flatten (tab j (λ (i : ℕ). header ((replyTo (nOf s) i) .answer))) ++ drop (j * headBytes) records) counted
       ∙ sym (ap₂ {C = List ℕ} (λ t j. flatten t ++ drop (j * headBytes) records) (p .headed) (p .many))
 
-  pub each-repaired : (repaired x : List ℕ) → x ≡ flatten (tab k (λ (i : ℕ). (reply n i) .bytes)) ++ drop (k * partBytes n) repaired
-      → x ≡ flatten (parts s ch lost input) ++ drop (partCount s ch input * partBytes (sizeOf s)) repaired
+  pub each-repaired : (repaired x : List ℕ) → x ≡ flatten (tab k (λ (i : ℕ). (replyTo n i) .bytes)) ++ drop (k * partBytes n) repaired
+      → x ≡ flatten (parts s ch lost input) ++ drop (partCount s ch input * partBytes (nOf s)) repaired
   each-repaired repaired x e =
-      e ∙ ap (λ (m : ℕ). flatten (tab k (λ (i : ℕ). (reply m i) .bytes)) ++ drop (k * partBytes m) repaired) en
-      ∙ ap (λ (j : ℕ). flatten (tab j (λ (i : ℕ). (reply (sizeOf s) i) .bytes)) ++ drop (j * partBytes (sizeOf s)) repaired) counted
-      ∙ sym (ap₂ {C = List ℕ} (λ t j. flatten t ++ drop (j * partBytes (sizeOf s)) repaired) (p .parted) (p .each))
+      e ∙ ap (λ (m : ℕ). flatten (tab k (λ (i : ℕ). (replyTo m i) .bytes)) ++ drop (k * partBytes m) repaired) en
+      ∙ ap (λ (j : ℕ). flatten (tab j (λ (i : ℕ). (replyTo (nOf s) i) .bytes)) ++ drop (j * partBytes (nOf s)) repaired) counted
+      ∙ sym (ap₂ {C = List ℕ} (λ t j. flatten t ++ drop (j * partBytes (nOf s)) repaired) (p .parted) (p .each))
 
 -- ---- the call
 
@@ -128,12 +128,12 @@ module _ (s ch lost input repaired records : List ℕ) where
   short-records h = rw h
 
   module _ (h : ltb (length records) (recordCount s ch input * headBytes) ≡ false) where
-    pub short-repaired : ltb (length repaired) (partCount s ch input * partBytes (sizeOf s)) ≡ true → leavingBoth repaired records ShortOutput ≡ answeringStrips s ch lost input repaired records
+    pub short-repaired : ltb (length repaired) (partCount s ch input * partBytes (nOf s)) ≡ true → leavingBoth repaired records ShortOutput ≡ answeringStrips s ch lost input repaired records
     unfolding answeringStrips
     short-repaired q = rw (h, q)
 
-    pub answered : ltb (length repaired) (partCount s ch input * partBytes (sizeOf s)) ≡ false → (x y : List ℕ)
-        → x ≡ flatten (parts s ch lost input) ++ drop (partCount s ch input * partBytes (sizeOf s)) repaired → y ≡ flatten (headers s ch lost input) ++ drop (recordCount s ch input * headBytes) records
+    pub answered : ltb (length repaired) (partCount s ch input * partBytes (nOf s)) ≡ false → (x y : List ℕ)
+        → x ≡ flatten (parts s ch lost input) ++ drop (partCount s ch input * partBytes (nOf s)) repaired → y ≡ flatten (headers s ch lost input) ++ drop (recordCount s ch input * headBytes) records
         → leavingBoth x y Done ≡ answeringStrips s ch lost input repaired records
     unfolding answeringStrips
     answered q x y ex ey =

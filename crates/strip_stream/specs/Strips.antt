@@ -16,7 +16,7 @@ use lib.Dec.{eqb, ltb}
 use Rattle.bits.specs.Vectors.{pick, tab}
 use Rattle.meaning.specs.Limits.{largestN, headBytes}
 use Rattle.meaning.specs.Answers.{Reply, _⇒_, firstOf}
-use Rattle.meaning.specs.Stream.{header, sizeOf, roundedUp, pieceAt}
+use Rattle.meaning.specs.Stream.{header, nOf, roundedUp, pieceAt}
 use Rattle.meaning.specs.declared.Answer.{Answer}
 use Rattle.meaning.specs.declared.Answer.the-variants.{Done, BadShape, BadCheck, ShortOutput}
 use Rattle.strips.specs.Repairing.{repairing}
@@ -39,15 +39,15 @@ stripReply n s r c lost strip = repairing n s r c strip lost (replicate (partByt
 
 -- the first where the sheet is no N records long; else the second where the choice is not two bytes; else the third
 abbrev pub byCase : {A : Type 0} → List ℕ → List ℕ → A → A → A → A
-byCase s ch shape choice right = pick (ltb largestN (sizeOf s)) shape (pick (not (eqb (length ch) 2)) choice right)
+byCase s ch shape choice right = pick (ltb largestN (nOf s)) shape (pick (not (eqb (length ch) 2)) choice right)
 
 -- strip k of 64 N bytes; the last may be short
 abbrev pub replyAt : List ℕ → List ℕ → List ℕ → List ℕ → ℕ → Reply
-replyAt s ch lost input k = stripReply (sizeOf s) s (getD ch 0 0) (getD ch 1 0) lost (pieceAt (stripBytes (sizeOf s)) input k)
+replyAt s ch lost input k = stripReply (nOf s) s (getD ch 0 0) (getD ch 1 0) lost (pieceAt (stripBytes (nOf s)) input k)
 
 -- input bytes divided by 64 N, rounded up
 abbrev pub stripCount : List ℕ → List ℕ → ℕ
-stripCount s input = roundedUp (length input) (stripBytes (sizeOf s))
+stripCount s input = roundedUp (length input) (stripBytes (nOf s))
 
 -- one record alone, or one for each strip; no part, or one for each strip
 unfoldable pub recordCount : List ℕ → List ℕ → List ℕ → ℕ
@@ -81,5 +81,5 @@ answeringStrips s ch lost input repaired records =
     let ps = flatten (parts s ch lost input) in
     let hs = flatten (headers s ch lost input) in
     firstOf (leavingBoth repaired records)
-    ((ltb (length records) (recordCount s ch input * headBytes) ⇒ ShortOutput) ∷ (ltb (length repaired) (partCount s ch input * partBytes (sizeOf s)) ⇒ ShortOutput) ∷ [])
+    ((ltb (length records) (recordCount s ch input * headBytes) ⇒ ShortOutput) ∷ (ltb (length repaired) (partCount s ch input * partBytes (nOf s)) ⇒ ShortOutput) ∷ [])
     (leavingBoth (ps ++ drop (length ps) repaired) (hs ++ drop (length hs) records) Done)

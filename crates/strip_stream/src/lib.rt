@@ -8,11 +8,11 @@ ghost use lib.ListN.{length, drop, replicate};
 ghost use lib.Dec.{ltb};
 ghost use Rattle.bits.specs.Vectors.{tab};
 ghost use Rattle.meaning.specs.Limits.{largestN, headBytes};
-ghost use Rattle.meaning.specs.Stream.{header, sizeOf, roundedUp, pieceAt};
+ghost use Rattle.meaning.specs.Stream.{header, nOf, roundedUp, pieceAt};
 ghost use Rattle.strip_stream.specs.Strips.{stripBytes, partBytes, stripReply, byCase, stripCount, recordCount, partCount, headers, parts, leavingBoth, answeringStrips};
+use answers::pieces;
 use meaning::Answer;
 use meaning::limits;
-use meaning::pieces;
 
 // Bytes of a record of a strip.
 const RECORD: usize = 64;
@@ -41,7 +41,7 @@ fn part_bytes(n: usize) -> usize
 fn many(sheet: &[u8], choice: &[u8], input: &[u8], alone: usize) -> usize
     ensures { λ r. ⌜ r ≡ byCase (now (sheet .entry)) (now (choice .entry)) alone alone (stripCount (now (sheet .entry)) (now (input .entry))) ⌝ }
 {
-    let n = stream::size(sheet);
+    let n = stream::n_of(sheet);
     if limits::LARGEST_N < n {
         return alone;
     }
@@ -68,9 +68,9 @@ pub fn parts(sheet: &[u8], choice: &[u8], input: &[u8]) -> usize
 
 // The bytes of a part: 65N, by the sheet's length. With a sheet of wrong length, which gets no part, N counts as 1,024.
 pub fn part(sheet: &[u8]) -> usize
-    ensures { λ r. ⌜ r ≡ partBytes (sizeOf (now (sheet .entry))) ⌝ }
+    ensures { λ r. ⌜ r ≡ partBytes (nOf (now (sheet .entry))) ⌝ }
 {
-    part_bytes(stream::size(sheet))
+    part_bytes(stream::n_of(sheet))
 }
 
 // Fills a part with 255.
@@ -89,7 +89,7 @@ fn put(a: Answer, records: &mut [u8])
     requires { ⌜ headBytes ≤ length (now records) ⌝ }
     ensures { λ _. ⌜ now (records .exit) ≡ header a ++ drop headBytes (now (records .entry)) ⌝ }
 {
-    bytes::copy(&meaning::header(a), records);
+    bytes::copy(&answers::header(a), records);
 }
 
 // Answers one strip, in the room of its part and its record.
@@ -160,11 +160,11 @@ fn write(
     repaired: &mut [u8],
     records: &mut [u8],
 )
-    requires { ⌜ (recordCount (now sheet) (now choice) (now input) * headBytes ≤ length (now records)) × (partCount (now sheet) (now choice) (now input) * partBytes (sizeOf (now sheet)) ≤ length (now repaired)) ⌝ }
-    ensures { λ _. ⌜ now (repaired .exit) ≡ flatten (parts (now (sheet .entry)) (now (choice .entry)) (now (lost .entry)) (now (input .entry))) ++ drop (partCount (now (sheet .entry)) (now (choice .entry)) (now (input .entry)) * partBytes (sizeOf (now (sheet .entry)))) (now (repaired .entry)) ⌝ }
+    requires { ⌜ (recordCount (now sheet) (now choice) (now input) * headBytes ≤ length (now records)) × (partCount (now sheet) (now choice) (now input) * partBytes (nOf (now sheet)) ≤ length (now repaired)) ⌝ }
+    ensures { λ _. ⌜ now (repaired .exit) ≡ flatten (parts (now (sheet .entry)) (now (choice .entry)) (now (lost .entry)) (now (input .entry))) ++ drop (partCount (now (sheet .entry)) (now (choice .entry)) (now (input .entry)) * partBytes (nOf (now (sheet .entry)))) (now (repaired .entry)) ⌝ }
     ensures { λ _. ⌜ now (records .exit) ≡ flatten (headers (now (sheet .entry)) (now (choice .entry)) (now (lost .entry)) (now (input .entry))) ++ drop (recordCount (now (sheet .entry)) (now (choice .entry)) (now (input .entry)) * headBytes) (now (records .entry)) ⌝ }
 {
-    let n = stream::size(sheet);
+    let n = stream::n_of(sheet);
     if limits::LARGEST_N < n {
         put(Answer::BadShape, records);
     } else if choice.len() != 2 {
@@ -186,7 +186,7 @@ fn write(
 
 // Whether `repaired`, of `room` bytes, is too short for the parts.
 fn short(sheet: &[u8], choice: &[u8], input: &[u8], room: usize) -> bool
-    ensures { λ r. ⌜ r ≡ ltb room (partCount (now (sheet .entry)) (now (choice .entry)) (now (input .entry)) * partBytes (sizeOf (now (sheet .entry)))) ⌝ }
+    ensures { λ r. ⌜ r ≡ ltb room (partCount (now (sheet .entry)) (now (choice .entry)) (now (input .entry)) * partBytes (nOf (now (sheet .entry)))) ⌝ }
 {
     room / part(sheet) < parts(sheet, choice, input)
 }

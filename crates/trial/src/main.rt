@@ -52,7 +52,7 @@ fn call(
     requires { ⌜ length (now out) ≤ mostOut ⌝ }
 {
     match op {
-        0 => Reply::Answered(form::check_sheet(n, a, r)),
+        0 => Reply::Answered(sheet::check_sheet(n, a, r)),
         1 => Reply::Answered(codec::encode(n, a, r, b, out)),
         2 => Reply::Answered(decoder::decode(n, a, r, ceiling, b, out)),
         3 => Reply::Answered(codec::read_back(n, a, r, b, out)),
@@ -176,7 +176,7 @@ fn respond(q: Request, body: &[u8], out: &mut [u8]) -> bool
         &body[j..],
         out,
     ) {
-        Reply::Answered(answer) => write(&start(meaning::numbers(answer))) && write(out),
+        Reply::Answered(answer) => write(&start(answers::numbers(answer))) && write(out),
         Reply::Viewed(bytes) => write(&start([0, bytes, 0, 0, 0])) && write(out),
         Reply::Unknown => false,
     }

@@ -5,8 +5,5 @@ use Rattle.intake.proofs.goes_on.Tie as tie
 returns : tie.Need-returns
 returns c = rw (c .if1 .taken)
 
-returns-2 : tie.Need-returns-2
-returns-2 c = search needs
-
 pub goes-on-spec : {M : Type 1} → statement M
-goes-on-spec = tie.close (tie.spec returns returns-2)
+goes-on-spec = tie.close (tie.spec returns (λ c. search needs))

@@ -5,21 +5,6 @@ use borrow.Author.Needs.{needs}
 use Rattle.intake.proofs.read_behind.Statement.{statement}
 use Rattle.intake.proofs.read_behind.Tie as tie
 
-sub-read : tie.Need-sub-read
-sub-read c = search needs
-
-part-read-start : tie.Need-part-read-start
-part-read-start c = search needs
-
-part-read-end : tie.Need-part-read-end
-part-read-end c = search needs
-
-read-requires : tie.Need-read-requires
-read-requires c κs = search needs
-
-same-length : tie.Need-same-length
-same-length c = search needs
-
 returns : tie.Need-returns
 returns c =
     let start = c .before .before .before .before .before in
@@ -27,5 +12,4 @@ returns c =
     take-put (start .args .n) (length buf - start .args .n) buf (c .before .before .read .last .1 .0) (start .pre)
 
 pub read-behind-spec : {M : Type 1} → statement M
-read-behind-spec =
-    tie.close (tie.spec sub-read part-read-start part-read-end read-requires same-length returns)
+read-behind-spec = tie.close (tie.spec (λ c. search needs) (λ c. search needs) (λ c. search needs) (λ c κs. search needs) (λ c. search needs) returns)

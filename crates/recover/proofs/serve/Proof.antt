@@ -10,41 +10,26 @@ use native.Mathlib.Omega.{arith}
 use Rattle.recover.proofs.serve.Statement.{statement}
 use Rattle.recover.proofs.serve.Tie as tie
 
-size-requires : tie.Need-size-requires
-size-requires c κs = search needs
-
-slice-aggregate-refuse : tie.Need-slice-aggregate-refuse
-slice-aggregate-refuse c = search needs
-
 refuse-requires : tie.Need-refuse-requires
 unfolding largestN
 refuse-requires c κs =
     let then1 = c .before .before .before in
-    let at-size = then1 .before in
-    let start = at-size .before .before .before .before .before in
-    (sym (one-shape (start .args .sheet .now) (start .args .choice .now) [] _ (at-size .size .ensures) (then1 .if1 .taken)), one-room _ (start .pre .1))
-
-slice-aggregate-refuse-2 : tie.Need-slice-aggregate-refuse-2
-slice-aggregate-refuse-2 c = search needs
+    let at-n = then1 .before in
+    let start = at-n .before .before .before .before .before in
+    (sym (one-shape (start .args .sheet .now) (start .args .choice .now) [] _ (at-n .n-of .ensures) (then1 .if1 .taken)), one-room _ (start .pre .1))
 
 refuse-requires-2 : tie.Need-refuse-requires-2
 unfolding largestN
 refuse-requires-2 c κs =
     let then2 = c .before .before .before in
     let else1 = then2 .before in
-    let at-size = else1 .before in
-    let start = at-size .before .before .before .before .before in
-    (sym (one-choice (start .args .sheet .now) (start .args .choice .now) [] _ (at-size .size .ensures) (else1 .if1 .left) (then2 .if2 .taken)), one-room _ (start .pre .1))
+    let at-n = else1 .before in
+    let start = at-n .before .before .before .before .before in
+    (sym (one-choice (start .args .sheet .now) (start .args .choice .now) [] _ (at-n .n-of .ensures) (else1 .if1 .left) (then2 .if2 .taken)), one-room _ (start .pre .1))
 
 shl-run : tie.Need-shl-run
 unfolding largestN
 shl-run c = omega (arith, c .before .if1 .left)
-
-sub-run : tie.Need-sub-run
-sub-run c = search needs
-
-part-run-start : tie.Need-part-run-start
-part-run-start c = search needs
 
 part-run-end : tie.Need-part-run-end
 unfolding largestN runWords
@@ -55,58 +40,15 @@ unfolding largestN runWords
 run-requires c κs =
     let else2 = c .before .before in
     let else1 = else2 .before in
-    let at-size = else1 .before in
-    let start = at-size .before .before .before .before .before in
+    let at-n = else1 .before in
+    let start = at-n .before .before .before .before .before in
     let (e, l) = run-is _ (else1 .if1 .left) in
-    ready-same _ _ _ _ _ _ (simp length-take (omega (arith, e, l, start .pre .0))) (start .pre .1) (ready (start .args .sheet .now) (start .args .choice .now) (start .args .input .now) _ (at-size .size .ensures) (else1 .if1 .left) (else2 .if2 .left) _ e)
-
-same-length : tie.Need-same-length
-same-length c = search needs
-
-same-length-2 : tie.Need-same-length-2
-same-length-2 c = search needs
-
-returns : tie.Need-returns
-returns c = search needs
-
-same-length-3 : tie.Need-same-length-3
-same-length-3 c = search needs
-
-same-length-4 : tie.Need-same-length-4
-same-length-4 c = search needs
-
-returns-2 : tie.Need-returns-2
-returns-2 c = search needs
-
-same-length-5 : tie.Need-same-length-5
-same-length-5 c = search needs
-
-same-length-6 : tie.Need-same-length-6
-same-length-6 c = search needs
-
-returns-3 : tie.Need-returns-3
-returns-3 c = search needs
+    ready-same _ _ _ _ _ _ (simp length-take (omega (arith, e, l, start .pre .0))) (start .pre .1) (ready (start .args .sheet .now) (start .args .choice .now) (start .args .input .now) _ (at-n .n-of .ensures) (else1 .if1 .left) (else2 .if2 .left) _ e)
 
 pub serve-spec : {M : Type 1} → statement M
 serve-spec =
     tie.close
     (tie.spec
-    size-requires
-    slice-aggregate-refuse
-    refuse-requires
-    slice-aggregate-refuse-2
-    refuse-requires-2
-    shl-run
-    sub-run
-    part-run-start
-    part-run-end
-    run-requires
-    same-length
-    same-length-2
-    returns
-    same-length-3
-    same-length-4
-    returns-2
-    same-length-5
-    same-length-6
-    returns-3)
+    (λ c κs. search needs) (λ c. search needs) refuse-requires (λ c. search needs) refuse-requires-2 shl-run (λ c. search needs) (λ c. search needs)
+    part-run-end run-requires (λ c. search needs) (λ c. search needs) (λ c. search needs) (λ c. search needs) (λ c. search needs) (λ c. search needs)
+    (λ c. search needs) (λ c. search needs) (λ c. search needs))

@@ -6,12 +6,6 @@ use borrow.Author.Needs.{needs}
 use Rattle.show.proofs.shown.Statement.{statement}
 use Rattle.show.proofs.shown.Tie as tie
 
-line-requires : tie.Need-line-requires
-line-requires c κs = search needs
-
-same-length : tie.Need-same-length
-same-length c = search needs
-
 returns : tie.Need-returns
 unfolding written answerBytes headBytes stripWidth
 returns c = let l = c .before .before .line .ensures in rw (eq-eqb (c .before .before .before .before .before .before .before .args .got) answerBytes (c .before .before .before .before .if1 .taken)) (l .1, l .2)
@@ -21,4 +15,4 @@ unfolding written answerBytes headBytes stripWidth
 returns-2 c = rw (ne-eqb (c .before .before .before .args .got) answerBytes (c .if1 .left)) (search needs)
 
 pub shown-spec : {M : Type 1} → statement M
-shown-spec = tie.close (tie.spec line-requires same-length returns returns-2)
+shown-spec = tie.close (tie.spec (λ c κs. search needs) (λ c. search needs) returns returns-2)

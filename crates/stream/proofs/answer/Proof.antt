@@ -5,9 +5,6 @@ use borrow.Author.Needs.{needs}
 use Rattle.stream.proofs.answer.Statement.{statement}
 use Rattle.stream.proofs.answer.Tie as tie
 
-records-requires : tie.Need-records-requires
-records-requires c κs = search needs
-
 returns : tie.Need-returns
 unfolding answerBytes headBytes stripWidth
 returns c =
@@ -22,9 +19,6 @@ write-requires c κs =
     let start = at-records .before .before .before .before .before in
     let A = start .args in (at-records .records .ensures, room (A .sheet .now) (A .choice .now) (A .input .now) (A .out .now) _ (at-records .records .ensures) (c .before .if1 .left))
 
-same-length : tie.Need-same-length
-same-length c = search needs
-
 returns-2 : tie.Need-returns-2
 unfolding answerBytes headBytes stripWidth
 returns-2 c =
@@ -36,4 +30,4 @@ returns-2 c =
     streamed (A .sheet .now) (A .choice .now) (A .input .now) (A .out .now) _ (at-records .records .ensures) _ (else1 .if1 .left) (at-write .write .ensures)
 
 pub answer-spec : {M : Type 1} → statement M
-answer-spec = tie.close (tie.spec records-requires returns write-requires same-length returns-2)
+answer-spec = tie.close (tie.spec (λ c κs. search needs) returns write-requires (λ c. search needs) returns-2)

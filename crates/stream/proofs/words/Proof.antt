@@ -8,6 +8,7 @@ use Rattle.meaning.specs.Limits.{headBytes, stripWidth}
 use Rattle.meaning.specs.Stream.{answerBytes, answerRecord, pieceAt}
 use Rattle.meaning.proofs.Cutting.{begins, end-room, piece-is}
 use Rattle.bits.proofs.Records.{put-record}
+use Rattle.sheet.proofs.Shapes.{positions-all}
 use Rattle.stream.proofs.Streaming.{recordAt, record-long}
 use borrow.Author.Needs.{needs}
 use native.Mathlib.Omega.{arith}
@@ -21,23 +22,23 @@ abbrev μ-loop : tie.MeasureT-loop
 μ-loop n sheet r ceiling input k out₀ size i₀ out i = k - i
 
 module _ (c : tie.In-loop Inv-loop μ-loop) where
-  abbrev at-size-of : tie.After-size-of Inv-loop μ-loop
-  at-size-of = c .before .before
+  abbrev at-size : tie.After-size Inv-loop μ-loop
+  at-size = c .before .before
 
   -- word i starts within the input
-  starts : c .before .loop .i * at-size-of .size-of .result < length (at-size-of .before .before .before .before .args .input .now)
+  starts : c .before .loop .i * at-size .size .result < length (at-size .before .before .before .before .args .input .now)
   starts =
-      let start = at-size-of .before .before .before .before in
-      begins (length (start .args .input .now)) (2 ^ start .args .n) (at-size-of .size-of .result) (c .before .loop .i) (start .args .k) (omega (arith, pow-pos (start .args .n))) (at-size-of .size-of .ensures) (start .pre .1) (c .loop-test .taken)
+      let start = at-size .before .before .before .before in
+      begins (length (start .args .input .now)) (2 ^ start .args .n) (at-size .size .result) (c .before .loop .i) (start .args .k) (omega (arith, pow-pos (start .args .n))) (at-size .size .ensures ∙ positions-all _ (start .pre .0)) (start .pre .1) (c .loop-test .taken)
 
 -- and ends there
 ends : (c : tie.After-end Inv-loop μ-loop)
-    → let size = at-size-of (c .before) .size-of .result in
-    (c .before .before .loop .i * size ≤ c .end .result) × (c .end .result ≤ length (at-size-of (c .before) .before .before .before .before .args .input .now))
-ends c = end-room (at-size-of (c .before) .size-of .result) (length (at-size-of (c .before) .before .before .before .before .args .input .now)) (c .before .before .loop .i) (c .end .result) (c .end .ensures) (omega (arith, starts (c .before)))
+    → let size = at-size (c .before) .size .result in
+    (c .before .before .loop .i * size ≤ c .end .result) × (c .end .result ≤ length (at-size (c .before) .before .before .before .before .args .input .now))
+ends c = end-room (at-size (c .before) .size .result) (length (at-size (c .before) .before .before .before .before .args .input .now)) (c .before .before .loop .i) (c .end .result) (c .end .ensures) (omega (arith, starts (c .before)))
 
-size-of-requires : tie.Need-size-of-requires Inv-loop μ-loop
-size-of-requires c κs = c .before .before .before .pre .0
+size-requires : tie.Need-size-requires Inv-loop μ-loop
+size-requires c κs = search needs
 
 loop-holds : tie.Need-loop-holds Inv-loop μ-loop
 unfolding flatten answerBytes headBytes stripWidth
@@ -101,12 +102,12 @@ loop-again c =
     let at-end = at-answer .before .before .before in
     let in-loop = at-end .before in
     let at-loop = in-loop .before in
-    let at-size-of = at-loop .before in
-    let start = at-size-of .before .before .before .before in
+    let at-size = at-loop .before in
+    let start = at-size .before .before .before .before in
     let A = start .args in
     let l = at-loop .loop in
     let x : at-answer .answer .last .1 .1 .1 .1 .1 .0 ≡ recordAt (A .n) (A .sheet .now) (A .r) (A .ceiling) (A .input .now) (l .i) = at-answer .answer .ensures
-    ∙ ap (answerRecord (A .n) (A .sheet .now) (A .r) (A .ceiling)) (piece-is (at-size-of .size-of .result) (A .input .now) (l .i) _ (at-end .end .ensures) ∙ ap (λ (L : ℕ). pieceAt L (A .input .now) (l .i)) (at-size-of .size-of .ensures)) in (
+    ∙ ap (answerRecord (A .n) (A .sheet .now) (A .r) (A .ceiling)) (piece-is (at-size .size .result) (A .input .now) (l .i) _ (at-end .end .ensures) ∙ ap (λ (L : ℕ). pieceAt L (A .input .now) (l .i)) (at-size .size .ensures ∙ positions-all _ (start .pre .0))) in (
       omega (arith, in-loop .loop-test .taken),
       c .before .out .given .1 ∙ l .inv .1,
       put-record answerBytes (recordAt (A .n) (A .sheet .now) (A .r) (A .ceiling) (A .input .now)) (λ i. record-long (A .n) (A .sheet .now) (A .r) (A .ceiling) _ (start .pre .0)) (A .out .now) (l .i) (l .out) _ (l .inv .2) x,
@@ -128,7 +129,7 @@ words-spec =
     (tie.spec
     Inv-loop
     μ-loop
-    size-of-requires
+    size-requires
     loop-holds
     mul-from
     end-requires

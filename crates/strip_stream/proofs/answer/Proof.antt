@@ -5,7 +5,7 @@ use lib.ListN.{length}
 use lib.Dec.{ltb}
 use borrow.Author.Tests.{ltb-false}
 use Rattle.meaning.specs.Limits.{headBytes}
-use Rattle.meaning.specs.Stream.{sizeOf}
+use Rattle.meaning.specs.Stream.{nOf}
 use Rattle.strip_stream.specs.Strips.{partBytes, recordCount, partCount}
 use Rattle.strip_stream.proofs.Writing.{records-short, records-fit, short-records, short-repaired, answered}
 use borrow.Author.Needs.{needs}
@@ -24,11 +24,8 @@ fit c =
 
 -- and for the parts
 parts-fit : (c : tie.Else2)
-    → let A = start (c .before .before .before) .args in ltb (length (A .repaired .now)) (partCount (A .sheet .now) (A .choice .now) (A .input .now) * partBytes (sizeOf (A .sheet .now))) ≡ false
+    → let A = start (c .before .before .before) .args in ltb (length (A .repaired .now)) (partCount (A .sheet .now) (A .choice .now) (A .input .now) * partBytes (nOf (A .sheet .now))) ≡ false
 parts-fit c = sym (c .before .short .ensures) ∙ c .if2 .left
-
-count-requires : tie.Need-count-requires
-count-requires c κs = search needs
 
 returns : tie.Need-returns
 unfolding headBytes
@@ -36,9 +33,6 @@ returns c =
     let A = start (c .before) .args in
     short-records (A .sheet .now) (A .choice .now) (A .lost .now) (A .input .now) (A .repaired .now) (A .records .now)
     (records-short (A .sheet .now) (A .choice .now) (A .input .now) (length (A .records .now)) _ (c .before .count .ensures) (c .if1 .taken))
-
-short-requires : tie.Need-short-requires
-short-requires c κs = search needs
 
 returns-2 : tie.Need-returns-2
 returns-2 c =
@@ -49,12 +43,6 @@ returns-2 c =
 write-requires : tie.Need-write-requires
 write-requires c κs =
     let else2 = c .before .before in (ltb-false _ _ (fit (else2 .before .before)), ltb-false _ _ (parts-fit else2))
-
-same-length : tie.Need-same-length
-same-length c = search needs
-
-same-length-2 : tie.Need-same-length-2
-same-length-2 c = search needs
 
 returns-3 : tie.Need-returns-3
 returns-3 c =
@@ -68,11 +56,4 @@ pub answer-spec : {M : Type 1} → statement M
 answer-spec =
     tie.close
     (tie.spec
-    count-requires
-    returns
-    short-requires
-    returns-2
-    write-requires
-    same-length
-    same-length-2
-    returns-3)
+    (λ c κs. search needs) returns (λ c κs. search needs) returns-2 write-requires (λ c. search needs) (λ c. search needs) returns-3)

@@ -6,21 +6,6 @@ use borrow.Author.Needs.{needs}
 use Rattle.strip_stream.proofs.one.Statement.{statement}
 use Rattle.strip_stream.proofs.one.Tie as tie
 
-blank-requires : tie.Need-blank-requires
-blank-requires c κs = search needs
-
-repair-requires : tie.Need-repair-requires
-repair-requires c κs = search needs
-
-put-requires : tie.Need-put-requires
-put-requires c κs = search needs
-
-same-length : tie.Need-same-length
-same-length c = search needs
-
-same-length-2 : tie.Need-same-length-2
-same-length-2 c = search needs
-
 returns : tie.Need-returns
 returns c =
     let at-put = c .before .before in
@@ -32,6 +17,4 @@ returns c =
     (ap (λ (t : Reply). t .bytes) reply, put-whole (at-repair .repair .result) (A .head .now) _ (start .pre .1) (at-put .put .ensures) ∙ ap (λ (t : Reply). header (t .answer)) reply)
 
 pub one-spec : {M : Type 1} → statement M
-one-spec =
-    tie.close
-    (tie.spec blank-requires repair-requires put-requires same-length same-length-2 returns)
+one-spec = tie.close (tie.spec (λ c κs. search needs) (λ c κs. search needs) (λ c κs. search needs) (λ c. search needs) (λ c. search needs) returns)

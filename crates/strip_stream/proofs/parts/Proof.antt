@@ -3,12 +3,9 @@ use borrow.Author.Needs.{needs}
 use Rattle.strip_stream.proofs.parts.Statement.{statement}
 use Rattle.strip_stream.proofs.parts.Tie as tie
 
-many-requires : tie.Need-many-requires
-many-requires c κs = search needs
-
 returns : tie.Need-returns
 unfolding partCount
 returns c = c .many .ensures
 
 pub parts-spec : {M : Type 1} → statement M
-parts-spec = tie.close (tie.spec many-requires returns)
+parts-spec = tie.close (tie.spec (λ c κs. search needs) returns)

@@ -11,9 +11,6 @@ use Rattle.strip_stream.proofs.put.Tie as tie
 long : (c : tie.After-header) → length (c .header .result) ≡ headBytes
 long c = ap length (c .header .ensures) ∙ header-long (c .before .before .args .a)
 
-header-requires : tie.Need-header-requires
-header-requires c κs = search needs
-
 slice-aggregate-copy : tie.Need-slice-aggregate-copy
 unfolding headBytes
 slice-aggregate-copy c = omega (arith, long (c .before))
@@ -22,9 +19,6 @@ copy-requires : tie.Need-copy-requires
 unfolding headBytes
 copy-requires c κs = omega (arith, long (c .before .before), c .before .before .before .before .pre)
 
-same-length : tie.Need-same-length
-same-length c = search needs
-
 returns : tie.Need-returns
 returns c =
     let at-copy = c .before .before in
@@ -32,5 +26,4 @@ returns c =
     put-is (at-header .before .before .args .a) (at-header .header .result) _ _ (at-header .header .ensures) (at-copy .copy .ensures .1)
 
 pub put-spec : {M : Type 1} → statement M
-put-spec =
-    tie.close (tie.spec header-requires slice-aggregate-copy copy-requires same-length returns)
+put-spec = tie.close (tie.spec (λ c κs. search needs) slice-aggregate-copy copy-requires (λ c. search needs) returns)

@@ -11,33 +11,30 @@ use native.Mathlib.Omega.{arith}
 use Rattle.strip_stream.proofs.write.Statement.{statement}
 use Rattle.strip_stream.proofs.write.Tie as tie
 
-abbrev start : tie.After-size → tie.Start
+abbrev start : tie.After-n-of → tie.Start
 start c = c .before .before .before .before .before .before .before
 
 shape : (c : tie.Then1) → let A = start (c .before) .args in Alone (A .sheet .now) (A .choice .now) (A .lost .now) (A .input .now) BadShape
 unfolding largestN
-shape c = let A = start (c .before) .args in alone-shape (A .sheet .now) (A .choice .now) (A .lost .now) (A .input .now) (rw (← c .before .size .ensures) (c .if1 .taken))
+shape c = let A = start (c .before) .args in alone-shape (A .sheet .now) (A .choice .now) (A .lost .now) (A .input .now) (rw (← c .before .n-of .ensures) (c .if1 .taken))
 
 choice : (c : tie.Then2) → let A = start (c .before .before) .args in Alone (A .sheet .now) (A .choice .now) (A .lost .now) (A .input .now) BadCheck
 unfolding largestN
 choice c =
     let A = start (c .before .before) .args in
-    alone-choice (A .sheet .now) (A .choice .now) (A .lost .now) (A .input .now) (rw (← c .before .before .size .ensures) (c .before .if1 .left)) (c .if2 .taken)
+    alone-choice (A .sheet .now) (A .choice .now) (A .lost .now) (A .input .now) (rw (← c .before .before .n-of .ensures) (c .before .if1 .left)) (c .if2 .taken)
 
 good : (c : tie.Else2) → let A = start (c .before .before) .args in Right (A .sheet .now) (A .choice .now) (A .lost .now) (A .input .now)
 unfolding largestN
 good c =
     let A = start (c .before .before) .args in
-    right (A .sheet .now) (A .choice .now) (A .lost .now) (A .input .now) (rw (← c .before .before .size .ensures) (c .before .if1 .left)) (c .if2 .left)
+    right (A .sheet .now) (A .choice .now) (A .lost .now) (A .input .now) (rw (← c .before .before .n-of .ensures) (c .before .if1 .left)) (c .if2 .left)
 
 -- as many as strips
 many : (c : tie.After-count)
-    → let at-size = c .before .before .before .before .before .before in
-    c .count .result ≡ roundedUp (length (start at-size .args .input .now)) (stripBytes (at-size .size .result))
+    → let at-n = c .before .before .before .before .before .before in
+    c .count .result ≡ roundedUp (length (start at-n .args .input .now)) (stripBytes (at-n .n-of .result))
 many c = c .count .ensures ∙ ap (roundedUp _) (c .before .strip-bytes .ensures)
-
-size-requires : tie.Need-size-requires
-size-requires c κs = search needs
 
 put-requires : tie.Need-put-requires
 put-requires c κs = alone-room (shape (c .before)) _ (start (c .before .before) .pre .0)
@@ -61,19 +58,13 @@ strip-bytes-requires : tie.Need-strip-bytes-requires
 unfolding largestN
 strip-bytes-requires c κs = omega (arith, c .before .before .before .if1 .left)
 
-count-requires : tie.Need-count-requires
-count-requires c κs = search needs
-
 each-requires : tie.Need-each-requires
 unfolding largestN
 each-requires c κs =
     let at-count = c .before .before in
     let else2 = at-count .before .before .before .before in
-    let at-size = else2 .before .before in
-    ((else2 .before .if1 .left, many at-count), each-room (good else2) _ _ (at-size .size .ensures) (many at-count) _ _ (start at-size .pre .0) (start at-size .pre .1))
-
-same-length : tie.Need-same-length
-same-length c = search needs
+    let at-n = else2 .before .before in
+    ((else2 .before .if1 .left, many at-count), each-room (good else2) _ _ (at-n .n-of .ensures) (many at-count) _ _ (start at-n .pre .0) (start at-n .pre .1))
 
 returns : tie.Need-returns
 returns c =
@@ -82,9 +73,6 @@ returns c =
     let A = start (then1 .before) .args in
     (alone-repaired (shape then1) (A .repaired .now), alone-records (shape then1) (A .records .now) _ (at-put .put .ensures))
 
-same-length-2 : tie.Need-same-length-2
-same-length-2 c = search needs
-
 returns-2 : tie.Need-returns-2
 returns-2 c =
     let at-put = c .before .before in
@@ -92,41 +80,20 @@ returns-2 c =
     let A = start (then2 .before .before) .args in
     (alone-repaired (choice then2) (A .repaired .now), alone-records (choice then2) (A .records .now) _ (at-put .put2 .ensures))
 
-same-length-3 : tie.Need-same-length-3
-same-length-3 c = search needs
-
-same-length-4 : tie.Need-same-length-4
-same-length-4 c = search needs
-
 returns-3 : tie.Need-returns-3
 returns-3 c =
     let at-each = c .before .before .before .before in
     let at-count = at-each .before .before .before in
     let else2 = at-count .before .before .before .before in
-    let at-size = else2 .before .before in
-    let A = start at-size .args in (
-      each-repaired (good else2) _ _ (at-size .size .ensures) (many at-count) (A .repaired .now) _ (at-each .each .ensures .0),
-      each-records (good else2) _ _ (at-size .size .ensures) (many at-count) (A .records .now) _ (at-each .each .ensures .1),
+    let at-n = else2 .before .before in
+    let A = start at-n .args in (
+      each-repaired (good else2) _ _ (at-n .n-of .ensures) (many at-count) (A .repaired .now) _ (at-each .each .ensures .0),
+      each-records (good else2) _ _ (at-n .n-of .ensures) (many at-count) (A .records .now) _ (at-each .each .ensures .1),
     )
 
 pub write-spec : {M : Type 1} → statement M
 write-spec =
     tie.close
     (tie.spec
-    size-requires
-    put-requires
-    put-requires-2
-    shared-slice-read-each
-    cast-each
-    shared-slice-read-each-2
-    cast-each-2
-    strip-bytes-requires
-    count-requires
-    each-requires
-    same-length
-    returns
-    same-length-2
-    returns-2
-    same-length-3
-    same-length-4
-    returns-3)
+    (λ c κs. search needs) put-requires put-requires-2 shared-slice-read-each cast-each shared-slice-read-each-2 cast-each-2 strip-bytes-requires
+    (λ c κs. search needs) each-requires (λ c. search needs) returns (λ c. search needs) returns-2 (λ c. search needs) (λ c. search needs) returns-3)

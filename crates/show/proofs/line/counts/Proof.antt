@@ -5,30 +5,6 @@ use native.Mathlib.Omega.{arith}
 use Rattle.show.proofs.line.counts.Statement.{statement}
 use Rattle.show.proofs.line.counts.Tie as tie
 
-put-requires : tie.Need-put-requires
-put-requires c κs = search needs
-
-slice-aggregate-count : tie.Need-slice-aggregate-count
-slice-aggregate-count c = search needs
-
-count-requires : tie.Need-count-requires
-count-requires c κs = search needs
-
-slice-aggregate-count-2 : tie.Need-slice-aggregate-count-2
-slice-aggregate-count-2 c = search needs
-
-count-requires-2 : tie.Need-count-requires-2
-count-requires-2 c κs = search needs
-
-slice-aggregate-count-3 : tie.Need-slice-aggregate-count-3
-slice-aggregate-count-3 c = search needs
-
-count-requires-3 : tie.Need-count-requires-3
-count-requires-3 c κs = search needs
-
-same-length : tie.Need-same-length
-same-length c = search needs
-
 returns : tie.Need-returns
 unfolding verdict
 returns c =
@@ -43,12 +19,5 @@ pub counts-spec : {M : Type 1} → statement M
 counts-spec =
     tie.close
     (tie.spec
-    put-requires
-    slice-aggregate-count
-    count-requires
-    slice-aggregate-count-2
-    count-requires-2
-    slice-aggregate-count-3
-    count-requires-3
-    same-length
-    returns)
+    (λ c κs. search needs) (λ c. search needs) (λ c κs. search needs) (λ c. search needs) (λ c κs. search needs) (λ c. search needs) (λ c κs. search needs)
+    (λ c. search needs) returns)

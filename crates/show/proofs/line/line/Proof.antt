@@ -27,18 +27,6 @@ two-requires-5 : tie.Need-two-requires-5
 unfolding answerBytes headBytes stripWidth
 two-requires-5 c κs = omega (arith, c .before .before .before .before .before .before .pre .0)
 
-said-requires : tie.Need-said-requires
-said-requires c κs = search needs
-
-slice-aggregate-put : tie.Need-slice-aggregate-put
-slice-aggregate-put c = search needs
-
-put-requires : tie.Need-put-requires
-put-requires c κs = search needs
-
-same-length : tie.Need-same-length
-same-length c = search needs
-
 returns : tie.Need-returns
 returns c =
     let w = c .before .before .before .before .before .before .before .said .ensures in
@@ -51,13 +39,5 @@ pub line-spec : {M : Type 1} → statement M
 line-spec =
     tie.close
     (tie.spec
-    two-requires
-    two-requires-2
-    two-requires-3
-    two-requires-4
-    two-requires-5
-    said-requires
-    slice-aggregate-put
-    put-requires
-    same-length
-    returns)
+    two-requires two-requires-2 two-requires-3 two-requires-4 two-requires-5 (λ c κs. search needs) (λ c. search needs) (λ c κs. search needs)
+    (λ c. search needs) returns)

@@ -8,41 +8,17 @@ use native.Mathlib.Omega.{arith}
 use Rattle.show.proofs.line.refusal.Statement.{statement}
 use Rattle.show.proofs.line.refusal.Tie as tie
 
-slice-aggregate-with-number : tie.Need-slice-aggregate-with-number
-slice-aggregate-with-number c = search needs
-
-slice-aggregate-with-number-2 : tie.Need-slice-aggregate-with-number-2
-slice-aggregate-with-number-2 c = search needs
-
 with-number-requires : tie.Need-with-number-requires
 unfolding longestLine plainOf
 with-number-requires c κs = (omega arith, omega (arith, c .before .before .before .before .before .pre))
-
-slice-aggregate-with-number-3 : tie.Need-slice-aggregate-with-number-3
-slice-aggregate-with-number-3 c = search needs
-
-slice-aggregate-with-number-4 : tie.Need-slice-aggregate-with-number-4
-slice-aggregate-with-number-4 c = search needs
 
 with-number-requires-2 : tie.Need-with-number-requires-2
 unfolding longestLine plainOf
 with-number-requires-2 c κs = (omega arith, omega (arith, c .before .before .before .before .before .pre))
 
-slice-aggregate-with-number-5 : tie.Need-slice-aggregate-with-number-5
-slice-aggregate-with-number-5 c = search needs
-
-slice-aggregate-with-number-6 : tie.Need-slice-aggregate-with-number-6
-slice-aggregate-with-number-6 c = search needs
-
 with-number-requires-3 : tie.Need-with-number-requires-3
 unfolding longestLine plainOf
 with-number-requires-3 c κs = (omega arith, omega (arith, c .before .before .before .before .before .pre))
-
-plain-requires : tie.Need-plain-requires
-plain-requires c κs = search needs
-
-same-length : tie.Need-same-length
-same-length c = search needs
 
 returns : tie.Need-returns
 unfolding refusalOf
@@ -51,9 +27,6 @@ returns c =
     let a = c .before .before .before .before .before .before .before .before .args in
     (spelt (w .0) (ap (λ (k : ℕ). refusalOf k (a .place) (a .g)) (sym (c .before .before .before .before .before .before .match .keys1))), w .1)
 
-same-length-2 : tie.Need-same-length-2
-same-length-2 c = search needs
-
 returns-2 : tie.Need-returns-2
 unfolding refusalOf
 returns-2 c =
@@ -61,18 +34,12 @@ returns-2 c =
     let a = c .before .before .before .before .before .before .before .before .args in
     (spelt (w .0) (ap (λ (k : ℕ). refusalOf k (a .place) (a .g)) (sym (c .before .before .before .before .before .before .match .keys2))), w .1)
 
-same-length-3 : tie.Need-same-length-3
-same-length-3 c = search needs
-
 returns-3 : tie.Need-returns-3
 unfolding refusalOf
 returns-3 c =
     let w = c .before .before .with-number3 .ensures in
     let a = c .before .before .before .before .before .before .before .before .args in
     (spelt (w .0) (ap (λ (k : ℕ). refusalOf k (a .place) (a .g)) (sym (c .before .before .before .before .before .before .match .keys3))), w .1)
-
-same-length-4 : tie.Need-same-length-4
-same-length-4 c = search needs
 
 returns-4 : tie.Need-returns-4
 unfolding refusalOf
@@ -85,21 +52,6 @@ pub refusal-spec : {M : Type 1} → statement M
 refusal-spec =
     tie.close
     (tie.spec
-    slice-aggregate-with-number
-    slice-aggregate-with-number-2
-    with-number-requires
-    slice-aggregate-with-number-3
-    slice-aggregate-with-number-4
-    with-number-requires-2
-    slice-aggregate-with-number-5
-    slice-aggregate-with-number-6
-    with-number-requires-3
-    plain-requires
-    same-length
-    returns
-    same-length-2
-    returns-2
-    same-length-3
-    returns-3
-    same-length-4
-    returns-4)
+    (λ c. search needs) (λ c. search needs) with-number-requires (λ c. search needs) (λ c. search needs) with-number-requires-2 (λ c. search needs)
+    (λ c. search needs) with-number-requires-3 (λ c κs. search needs) (λ c. search needs) returns (λ c. search needs) returns-2 (λ c. search needs)
+    returns-3 (λ c. search needs) returns-4)

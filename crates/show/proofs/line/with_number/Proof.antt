@@ -5,18 +5,6 @@ use native.Mathlib.Omega.{arith}
 use Rattle.show.proofs.line.with_number.Statement.{statement}
 use Rattle.show.proofs.line.with_number.Tie as tie
 
-put-requires : tie.Need-put-requires
-put-requires c κs = search needs
-
-put-number-requires : tie.Need-put-number-requires
-put-number-requires c κs = search needs
-
-put-requires-2 : tie.Need-put-requires-2
-put-requires-2 c κs = search needs
-
-same-length : tie.Need-same-length
-same-length c = search needs
-
 returns : tie.Need-returns
 unfolding between
 returns c =
@@ -27,5 +15,4 @@ returns c =
     (w, omega (arith, p .ends, q .1, r .ends, w .long, c .before .before .before .before .before .before .before .before .before .before .before .before .before .before .before .pre))
 
 pub with-number-spec : {M : Type 1} → statement M
-with-number-spec =
-    tie.close (tie.spec put-requires put-number-requires put-requires-2 same-length returns)
+with-number-spec = tie.close (tie.spec (λ c κs. search needs) (λ c κs. search needs) (λ c κs. search needs) (λ c. search needs) returns)

@@ -7,24 +7,6 @@ use native.Mathlib.Omega.{arith}
 use Rattle.show.proofs.text.pad.Statement.{statement}
 use Rattle.show.proofs.text.pad.Tie as tie
 
-sub-put : tie.Need-sub-put
-sub-put c = search needs
-
-sub-put-2 : tie.Need-sub-put-2
-sub-put-2 c = search needs
-
-part-put-start : tie.Need-part-put-start
-part-put-start c = search needs
-
-part-put-end : tie.Need-part-put-end
-part-put-end c = search needs
-
-put-requires : tie.Need-put-requires
-put-requires c κs = search needs
-
-same-length : tie.Need-same-length
-same-length c = search needs
-
 returns : tie.Need-returns
 returns c = spelt (c .before .before .put .ensures) (spaces (c .before .before .before .before .before .before .before .before .args .width - c .before .before .before .before .before .before .before .before .args .k) (omega (arith, c .before .before .before .before .before .before .before .before .pre)))
 
@@ -37,11 +19,4 @@ pub pad-spec : {M : Type 1} → statement M
 pad-spec =
     tie.close
     (tie.spec
-    sub-put
-    sub-put-2
-    part-put-start
-    part-put-end
-    put-requires
-    same-length
-    returns
-    returns-2)
+    (λ c. search needs) (λ c. search needs) (λ c. search needs) (λ c. search needs) (λ c κs. search needs) (λ c. search needs) returns returns-2)

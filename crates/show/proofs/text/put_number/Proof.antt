@@ -7,30 +7,12 @@ use native.Mathlib.Omega.{arith}
 use Rattle.show.proofs.text.put_number.Statement.{statement}
 use Rattle.show.proofs.text.put_number.Tie as tie
 
-decimal-requires : tie.Need-decimal-requires
-decimal-requires c κs = search needs
-
-pad-requires : tie.Need-pad-requires
-pad-requires c κs = search needs
-
-sub-put : tie.Need-sub-put
-sub-put c = search needs
-
-part-put-start : tie.Need-part-put-start
-part-put-start c = search needs
-
-part-put-end : tie.Need-part-put-end
-part-put-end c = search needs
-
 put-requires : tie.Need-put-requires
 put-requires c κs =
     let d = c .before .before .before .before .before .before .before .decimal in
     let k = few (c .before .before .before .before .before .before .before .before .before .before .args .n) (d .result) (omega arith) (d .ensures .1 .0) in
     let p = c .before .before .before .before .before .pad .ensures in
     omega (arith, length-replicate {A = ℕ} (c .before .before .before .before .before .before .before .before .before .before .args .width - d .result) 32, length-take (d .result - 0) (d .last .1 .0), p .ends, p .long, k, c .before .before .before .before .before .before .before .before .before .before .pre)
-
-same-length : tie.Need-same-length
-same-length c = search needs
 
 returns : tie.Need-returns
 returns c =
@@ -46,11 +28,4 @@ pub put-number-spec : {M : Type 1} → statement M
 put-number-spec =
     tie.close
     (tie.spec
-    decimal-requires
-    pad-requires
-    sub-put
-    part-put-start
-    part-put-end
-    put-requires
-    same-length
-    returns)
+    (λ c κs. search needs) (λ c κs. search needs) (λ c. search needs) (λ c. search needs) (λ c. search needs) put-requires (λ c. search needs) returns)

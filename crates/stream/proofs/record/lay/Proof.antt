@@ -7,21 +7,6 @@ use native.Mathlib.Omega.{arith}
 use Rattle.stream.proofs.record.lay.Statement.{statement}
 use Rattle.stream.proofs.record.lay.Tie as tie
 
-sub-copy : tie.Need-sub-copy
-sub-copy c = search needs
-
-part-copy-start : tie.Need-part-copy-start
-part-copy-start c = search needs
-
-part-copy-end : tie.Need-part-copy-end
-part-copy-end c = search needs
-
-sub-copy-2 : tie.Need-sub-copy-2
-sub-copy-2 c = search needs
-
-part-copy-start-2 : tie.Need-part-copy-start-2
-part-copy-start-2 c = search needs
-
 part-copy-end-2 : tie.Need-part-copy-end-2
 unfolding stripWidth
 part-copy-end-2 c = let S = c .before .before .before in omega (arith, blank-long (S .args .size) (S .args .found .now) _ (S .pre .0) (S .pre .1) (S .pre .2))
@@ -36,24 +21,6 @@ mul-copy : tie.Need-mul-copy
 unfolding stripWidth
 mul-copy c = omega (arith, c .before .before .before .before .before .before .before .pre .1)
 
-sub-copy-3 : tie.Need-sub-copy-3
-sub-copy-3 c = search needs
-
-part-copy-start-3 : tie.Need-part-copy-start-3
-part-copy-start-3 c = search needs
-
-part-copy-end-3 : tie.Need-part-copy-end-3
-part-copy-end-3 c = search needs
-
-mul-copy-2 : tie.Need-mul-copy-2
-mul-copy-2 c = search needs
-
-sub-copy-4 : tie.Need-sub-copy-4
-sub-copy-4 c = search needs
-
-part-copy-start-4 : tie.Need-part-copy-start-4
-part-copy-start-4 c = search needs
-
 part-copy-end-4 : tie.Need-part-copy-end-4
 unfolding stripWidth
 part-copy-end-4 c =
@@ -67,33 +34,6 @@ copy-requires-2 c κs =
     let at-strips = c .before .before .before in
     let start = at-strips .before .before .before .before .before .before in
     simp (length-take, length-drop) (omega (arith, start .pre .0, start .pre .1, at-strips .strips .given .1, blank-long (start .args .size) (start .args .found .now) _ (start .pre .0) (start .pre .1) (start .pre .2)))
-
-mul-copy-3 : tie.Need-mul-copy-3
-mul-copy-3 c = search needs
-
-mul-copy-4 : tie.Need-mul-copy-4
-mul-copy-4 c = search needs
-
-sub-copy-5 : tie.Need-sub-copy-5
-sub-copy-5 c = search needs
-
-part-copy-start-5 : tie.Need-part-copy-start-5
-part-copy-start-5 c = search needs
-
-part-copy-end-5 : tie.Need-part-copy-end-5
-part-copy-end-5 c = search needs
-
-mul-copy-5 : tie.Need-mul-copy-5
-mul-copy-5 c = search needs
-
-mul-copy-6 : tie.Need-mul-copy-6
-mul-copy-6 c = search needs
-
-sub-copy-6 : tie.Need-sub-copy-6
-sub-copy-6 c = search needs
-
-part-copy-start-6 : tie.Need-part-copy-start-6
-part-copy-start-6 c = search needs
 
 part-copy-end-6 : tie.Need-part-copy-end-6
 unfolding stripWidth
@@ -111,9 +51,6 @@ copy-requires-3 c κs =
     let start = at-strips .before .before .before .before .before .before in
     simp (length-take, length-drop) (omega (arith, start .pre .0, start .pre .1, at-strips .strips .given .1, at-strips2 .strips2 .given .1, blank-long (start .args .size) (start .args .found .now) _ (start .pre .0) (start .pre .1) (start .pre .2)))
 
-same-length : tie.Need-same-length
-same-length c = search needs
-
 returns : tie.Need-returns
 unfolding stripWidth
 returns c =
@@ -127,32 +64,7 @@ pub lay-spec : {M : Type 1} → statement M
 lay-spec =
     tie.close
     (tie.spec
-    sub-copy
-    part-copy-start
-    part-copy-end
-    sub-copy-2
-    part-copy-start-2
-    part-copy-end-2
-    copy-requires
-    mul-copy
-    sub-copy-3
-    part-copy-start-3
-    part-copy-end-3
-    mul-copy-2
-    sub-copy-4
-    part-copy-start-4
-    part-copy-end-4
-    copy-requires-2
-    mul-copy-3
-    mul-copy-4
-    sub-copy-5
-    part-copy-start-5
-    part-copy-end-5
-    mul-copy-5
-    mul-copy-6
-    sub-copy-6
-    part-copy-start-6
-    part-copy-end-6
-    copy-requires-3
-    same-length
-    returns)
+    (λ c. search needs) (λ c. search needs) (λ c. search needs) (λ c. search needs) (λ c. search needs) part-copy-end-2 copy-requires mul-copy
+    (λ c. search needs) (λ c. search needs) (λ c. search needs) (λ c. search needs) (λ c. search needs) (λ c. search needs) part-copy-end-4 copy-requires-2
+    (λ c. search needs) (λ c. search needs) (λ c. search needs) (λ c. search needs) (λ c. search needs) (λ c. search needs) (λ c. search needs)
+    (λ c. search needs) (λ c. search needs) part-copy-end-6 copy-requires-3 (λ c. search needs) returns)

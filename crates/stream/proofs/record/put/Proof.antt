@@ -14,9 +14,6 @@ use Rattle.stream.proofs.record.put.Tie as tie
 header-long-is : (c : tie.After-header) → length (c .header .result) ≡ headBytes
 header-long-is c = ap length (c .header .ensures) ∙ header-long (c .before .before .before .args .a)
 
-header-requires : tie.Need-header-requires
-header-requires c κs = search needs
-
 slice-aggregate-copy : tie.Need-slice-aggregate-copy
 unfolding headBytes
 slice-aggregate-copy c = omega (arith, header-long-is (c .before))
@@ -33,18 +30,12 @@ part-copy-start : tie.Need-part-copy-start
 unfolding answerBytes headBytes stripWidth
 part-copy-start c = omega (arith, c .before .before .before .before .before .before .before .before .pre .1)
 
-part-copy-end : tie.Need-part-copy-end
-part-copy-end c = search needs
-
 copy-requires-2 : tie.Need-copy-requires-2
 unfolding answerBytes headBytes stripWidth
 copy-requires-2 c κs =
     let at-copy = c .before .before .before in
     let start = at-copy .before .before .before .before .before .before in
     put-room (start .args .strips .now) (at-copy .copy .last .1 .0) headBytes (omega (arith, start .pre .0, start .pre .1))
-
-same-length : tie.Need-same-length
-same-length c = search needs
 
 returns : tie.Need-returns
 unfolding answerBytes headBytes stripWidth
@@ -60,12 +51,4 @@ pub put-spec : {M : Type 1} → statement M
 put-spec =
     tie.close
     (tie.spec
-    header-requires
-    slice-aggregate-copy
-    copy-requires
-    sub-copy
-    part-copy-start
-    part-copy-end
-    copy-requires-2
-    same-length
-    returns)
+    (λ c κs. search needs) slice-aggregate-copy copy-requires sub-copy part-copy-start (λ c. search needs) copy-requires-2 (λ c. search needs) returns)

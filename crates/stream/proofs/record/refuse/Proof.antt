@@ -8,20 +8,11 @@ use borrow.Author.Needs.{needs}
 use Rattle.stream.proofs.record.refuse.Statement.{statement}
 use Rattle.stream.proofs.record.refuse.Tie as tie
 
-blank-requires : tie.Need-blank-requires
-blank-requires c κs = search needs
-
-slice-aggregate-put : tie.Need-slice-aggregate-put
-slice-aggregate-put c = search needs
-
 put-requires : tie.Need-put-requires
 put-requires c κs =
     let at-blank = c .before .before in
     let start = at-blank .before .before in
     (ap length (at-blank .blank .ensures) ∙ length-replicate (3 * stripWidth) 255, start .pre)
-
-same-length : tie.Need-same-length
-same-length c = search needs
 
 returns : tie.Need-returns
 unfolding refusedRecord
@@ -32,5 +23,4 @@ returns c =
     at-put .put .ensures ∙ ap (λ (t : List ℕ). header (start .args .a) ++ t) (at-blank .blank .ensures)
 
 pub refuse-spec : {M : Type 1} → statement M
-refuse-spec =
-    tie.close (tie.spec blank-requires slice-aggregate-put put-requires same-length returns)
+refuse-spec = tie.close (tie.spec (λ c κs. search needs) (λ c. search needs) put-requires (λ c. search needs) returns)

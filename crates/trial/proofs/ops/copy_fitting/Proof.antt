@@ -4,24 +4,6 @@ use borrow.Author.Needs.{needs}
 use Rattle.trial.proofs.ops.copy_fitting.Statement.{statement}
 use Rattle.trial.proofs.ops.copy_fitting.Tie as tie
 
-least-requires : tie.Need-least-requires
-least-requires c κs = search needs
-
-sub-copy : tie.Need-sub-copy
-sub-copy c = search needs
-
-part-copy-start : tie.Need-part-copy-start
-part-copy-start c = search needs
-
-part-copy-end : tie.Need-part-copy-end
-part-copy-end c = search needs
-
-copy-requires : tie.Need-copy-requires
-copy-requires c κs = search needs
-
-same-length : tie.Need-same-length
-same-length c = search needs
-
 returns : tie.Need-returns
 returns c =
     let at-copy = c .before .before in
@@ -33,10 +15,4 @@ pub copy-fitting-spec : {M : Type 1} → statement M
 copy-fitting-spec =
     tie.close
     (tie.spec
-    least-requires
-    sub-copy
-    part-copy-start
-    part-copy-end
-    copy-requires
-    same-length
-    returns)
+    (λ c κs. search needs) (λ c. search needs) (λ c. search needs) (λ c. search needs) (λ c κs. search needs) (λ c. search needs) returns)

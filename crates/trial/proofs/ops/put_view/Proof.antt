@@ -6,15 +6,6 @@ use borrow.Author.Needs.{needs}
 use Rattle.trial.proofs.ops.put_view.Statement.{statement}
 use Rattle.trial.proofs.ops.put_view.Tie as tie
 
-record-requires : tie.Need-record-requires
-record-requires c κs = search needs
-
-copy-fitting-requires : tie.Need-copy-fitting-requires
-copy-fitting-requires c κs = search needs
-
-same-length : tie.Need-same-length
-same-length c = search needs
-
 returns : tie.Need-returns
 returns c =
     let at-copy = c .before .before in
@@ -24,4 +15,4 @@ returns c =
     (ap length e, at-copy .copy-fitting .ensures ∙ ap (λ (w : List ℕ). take (length o) w ++ drop (length w) o) e)
 
 pub put-view-spec : {M : Type 1} → statement M
-put-view-spec = tie.close (tie.spec record-requires copy-fitting-requires same-length returns)
+put-view-spec = tie.close (tie.spec (λ c κs. search needs) (λ c κs. search needs) (λ c. search needs) returns)
