@@ -1,6 +1,5 @@
 # show.py COUNT WORD1 .. WORDCOUNT -- ARGUMENTS: shows answer records to a person. The COUNT words are the command that runs the
-# proved program, which turns each record into the first part of its line; the arguments are those of `show`. What candidates.py
-# shares with it stands here too.
+# proved program, which turns each record into the first part of its line; the arguments are those of `show`.
 import os
 import signal
 import sys
@@ -85,12 +84,6 @@ def stopped(ending, frame):
     raise Stop(128 + ending)
 
 
-def deaf():
-    """From here on no signal stops it."""
-    for ending in ENDING:
-        signal.signal(ending, signal.SIG_IGN)
-
-
 def reason(error):
     return os.strerror(error.errno) if error.errno else str(error)
 
@@ -105,11 +98,10 @@ def tell(line):
 
 
 class Output:
-    """Standard output, and what the command `name` tells on standard error behind it."""
+    """Standard output, and what is told on standard error behind it."""
 
-    def __init__(self, name, closed):
-        self.name = name
-        self.closed = 1 in closed
+    def __init__(self, closed):
+        self.closed = closed
         self.text = []
         self.status = 0
         self.told = []    # for the page
@@ -119,7 +111,7 @@ class Output:
         self.text.append(text)
 
     def flush(self):
-        data = memoryview(''.join(self.text).encode('latin-1'))
+        data = memoryview(''.join(self.text).encode('ascii'))
         self.text = []
         try:
             if data and self.closed:
@@ -138,7 +130,7 @@ class Output:
         self.flush()
         self.status = 1
         self.told.append(message)
-        tell(self.name + ': ' + message)
+        tell('show: ' + message)
 
     def some(self, kind, message):
         """An error of a kind that may be frequent: only the first are told."""
@@ -302,13 +294,13 @@ def places(code, settled, word):
     return 'lost ' + ranges(lost) + ('; all settled' if code == 0 else '')
 
 
-def wrap(line, width=WIDTH):
+def wrap(line):
     """A line in as many as it takes; not broken at the spaces that it starts with, nor behind its number."""
     rows = []
-    while len(line) > width:
-        cut = line.rfind(' ', len(INDENT), width + 1)
+    while len(line) > WIDTH:
+        cut = line.rfind(' ', len(INDENT), WIDTH + 1)
         if cut < 0:
-            cut = line.find(' ', width)
+            cut = line.find(' ', WIDTH)
         if cut < 0:
             break
         rows.append(line[:cut].rstrip(' '))
@@ -757,66 +749,53 @@ class Page:
         self.file = None
 
 
-def read_arguments(arguments, valued, flags):
-    """The values and flags that are given, by their names, and the other arguments; nothing where help is asked for."""
-    given, others = {}, []
-    arguments = list(arguments)
-    while arguments:
-        argument = arguments.pop(0)
-        name, equals, value = argument.partition('=')
-        if argument == '--':
-            others += arguments
-            break
-        if argument == '--help':
-            return None
-        if not argument.startswith('-') or argument == '-':
-            others.append(argument)
-        elif name in valued:
-            if not equals and arguments and not arguments[0].startswith('-'):
-                value = arguments.pop(0)
-            if not value:
-                raise Stop(2, '%s needs a value' % name)
-            if name in given:
-                raise Stop(2, '%s is given twice' % name)
-            given[name] = value
-        elif argument in flags:
-            given[name] = True
-        else:
-            raise Stop(2, '%s is no option' % argument)
-    return given, others
-
-
 class Options:
     """What the arguments ask for."""
 
-    def __init__(self, given, records):
-        self.problems = '--problems' in given
-        self.strips = '--strips' in given
-        self.words, self.lot, self.html = map(given.get, ['--words', '--lot', '--html'])
+    def __init__(self, arguments):
+        self.problems = self.strips = False
+        self.words = self.lot = self.html = None
+        self.records = []
+        arguments = list(arguments)
+        while arguments:
+            argument = arguments.pop(0)
+            name, equals, value = argument.partition('=')
+            if argument == '--':
+                self.records += arguments
+                break
+            if argument == '--help':
+                raise Stop(0, HELP)
+            if not argument.startswith('-') or argument == '-':
+                self.records.append(argument)
+            elif name in ('--words', '--lot', '--html'):
+                if not equals and arguments and not arguments[0].startswith('-'):
+                    value = arguments.pop(0)
+                if not value:
+                    raise Stop(2, '%s needs a value' % name)
+                if getattr(self, name[2:]) is not None:
+                    raise Stop(2, '%s is given twice' % name)
+                setattr(self, name[2:], value)
+            elif argument in ('--problems', '--strips'):
+                setattr(self, name[2:], True)
+            else:
+                raise Stop(2, '%s is no option' % argument)
         if (self.words is None) != (self.lot is None):
             raise Stop(2, '--words and --lot go together')
-        self.records = records or ['-']
-
-
-def length_in(lot):
-    """N, by the length of a lot's sheet; None where that is wrong."""
-    with open(os.path.join(lot, 'sheet.bin'), 'rb') as file:
-        size = len(file.read(SHEET_RECORD * STRIP + 1))
-    for exponent in range(10):
-        if size == SHEET_RECORD << exponent:
-            return 1 << exponent
+        self.records = self.records or ['-']
 
 
 def length_of(lot):
-    """The same; that it is wrong, or cannot be read, ends the run."""
+    """N, by the length of a lot's sheet."""
     name = os.path.join(lot, 'sheet.bin')
     try:
-        length = length_in(lot)
+        with open(name, 'rb') as file:
+            size = len(file.read(SHEET_RECORD * STRIP + 1))
     except OSError as error:
         raise Stop(2, '%s: %s' % (name, reason(error)))
-    if length is None:
-        raise Stop(2, '%s: its length is not 68 N for N = 1, 2, 4 .. 512' % name)
-    return length
+    for exponent in range(10):
+        if size == SHEET_RECORD << exponent:
+            return 1 << exponent
+    raise Stop(2, '%s: its length is not 68 N for N = 1, 2, 4 .. 512' % name)
 
 
 def some_of(file, size):
@@ -838,7 +817,7 @@ class Show:
     def __init__(self, command, options, closed):
         self.options = options
         self.closed = closed
-        self.output = Output('show', closed)
+        self.output = Output(1 in closed)
         self.words = self.patterns = self.page = None
         self.at = 0
         self.codes = {}
@@ -937,31 +916,7 @@ class Show:
         return self.output.status
 
 
-def commands_of(arguments, number):
-    """So many commands, each behind the number of its words, and the arguments behind them."""
-    commands = []
-    try:
-        for _ in range(number):
-            count = int(arguments[0])
-            commands.append(arguments[1:count + 1])
-            arguments = arguments[count + 1:]
-        if arguments[0] != '--' or not all(commands):
-            raise ValueError
-    except (IndexError, ValueError):
-        raise Stop(2, 'the command of the proved program is missing')
-    return commands, arguments[1:]
-
-
-def helped(name, text, closed):
-    """Says how the command is used."""
-    output = Output(name, closed)
-    output.add(text)
-    output.flush()
-    return 0
-
-
-def begin(name, act):
-    """Does what is to be done, given which standard files are closed, and answers its status; what stops it is told."""
+def main(arguments):
     closed = set()
     for file in range(3):
         try:
@@ -970,32 +925,40 @@ def begin(name, act):
             # nothing else may take its number
             closed.add(file)
             os.set_inheritable(os.open(os.devnull, os.O_RDWR), True)
+    show = None
     try:
         for ending in ENDING:
             signal.signal(ending, stopped)
-        return act(closed)
+        try:
+            count = int(arguments[0])
+            command = arguments[1:count + 1]
+            if arguments[count + 1] != '--' or not command:
+                raise ValueError
+        except (IndexError, ValueError):
+            raise Stop(2, 'the command of the proved program is missing')
+        try:
+            options = Options(arguments[count + 2:])
+        except Stop as stop:
+            if stop.status:
+                raise
+            output = Output(1 in closed)
+            output.add(stop.message)
+            output.flush()
+            return 0
+        show = Show(command, options, closed)
+        return show.run()
     except Stop as stop:
-        deaf()
+        for ending in ENDING:
+            signal.signal(ending, signal.SIG_IGN)
         if stop.message:
-            tell(stop.message if stop.message.startswith('usage: ') else name + ': ' + stop.message)
+            tell('show: ' + stop.message)
         return stop.status
     except Exception as error:
-        tell('%s: %s: %s' % (name, type(error).__name__, error))
+        tell('show: %s: %s' % (type(error).__name__, error))
         return 1
-
-
-def main(arguments, closed):
-    (command,), arguments = commands_of(arguments, 1)
-    read = read_arguments(arguments, ['--words', '--lot', '--html'], ['--problems', '--strips'])
-    if not read:
-        return helped('show', HELP, closed)
-    show = Show(command, Options(*read), closed)
-    try:
-        return show.run()
     finally:
-        deaf()
-        show.drop()
+        if show:
+            show.drop()
 
 
-if __name__ == '__main__':
-    os._exit(begin('show', lambda closed: main(sys.argv[1:], closed)))
+os._exit(main(sys.argv[1:]))

@@ -1,15 +1,10 @@
 // The five numbers of an answer: code, place, unknowns g, equations m, dimension d.
 // A refusal is an answer too; what a call found out is an answer with code 0, 1 or 2.
 
-/// The codes of the refusals, in the order of their checks: the first that applies is given. Listing has
-/// an order of its own.
+/// The codes of the refusals, in the order of their checks: the first that applies is given.
 pub const ORDER: [u16; 9] = [11, 12, 19, 13, 14, 15, 16, 17, 18];
 
-/// The codes of listing that leave the buffer as found, in the order of their checks: 16 comes last, and
-/// the verdict 2 stands among them.
-pub const ORDER_OF_LIST: [u16; 11] = [11, 12, 19, 13, 14, 15, 17, 18, 2, 22, 16];
-
-/// How many of both, from the first, are about the sheet and its check length.
+/// How many of them, from the first, are about the sheet and its check length.
 pub const OF_SHEET: usize = 4;
 
 /// How many encoding and read-back use.

@@ -27,14 +27,6 @@ pub fn every_codeword(sheet: &Sheet, r: usize) -> Vec<(Vec<bool>, Vec<bool>)> {
     list
 }
 
-/// The u of every agreeing codeword of a word, in the order of u.
-pub fn candidates(sheet: &Sheet, r: usize, word: &[u8]) -> Vec<Vec<bool>> {
-    let list = every_codeword(sheet, r).into_iter();
-    list.filter(|(_, x)| agrees(x, word))
-        .map(|(u, _)| u)
-        .collect()
-}
-
 /// The agreeing codewords of a word, if any. Vectors of bools compare from u_0 on, 0 before 1.
 pub fn agreeing(sheet: &Sheet, r: usize, word: &[u8]) -> Option<Agreeing> {
     let list: Vec<(Vec<bool>, Vec<bool>)> = every(sheet.length())

@@ -1,15 +1,14 @@
 // The calls: each gives its five numbers and fills its output buffer, or leaves it as found.
-// Checks run in the order 11, 12, 19, 13, 14 .. 18 and the first that applies is given. Listing has 16
-// last, behind the verdict 2 and its own 22. The converter uses the old 11 and 12, and 16. The view of a
-// strip has no numbers: it is empty where there is none.
+// Checks run in the order 11, 12, 19, 13, 14 .. 18 and the first that applies is given. The
+// converter uses the old 11 and 12, and 16. The view of a strip has no numbers: it is empty where
+// there is none.
 
 use crate::answer::Answer;
 use crate::check::{checked_sequence, remainder};
 use crate::code::{filled, free_bits, keeps, transform, Agreeing, ERASED};
 use crate::layout::{NEW, OLD};
 use crate::limits::{
-    CARTRIDGE_BYTES, HEADER_BYTES, LARGEST_CEILING, LARGEST_EXPONENT, LARGEST_LISTED, RECORD_BYTES,
-    STRIP_BYTES,
+    CARTRIDGE_BYTES, HEADER_BYTES, LARGEST_CEILING, LARGEST_EXPONENT, RECORD_BYTES, STRIP_BYTES,
 };
 use crate::sheet::Sheet;
 use crate::strips::{self, Repaired};
@@ -50,19 +49,6 @@ fn agreeing(sheet: &Sheet, r: usize, word: &[u8]) -> Option<Agreeing> {
         assert_eq!(found, brute::agreeing(sheet, r, word), "dense and brute");
     }
     found
-}
-
-/// The u of every agreeing codeword in the order of u, held to the trial of every u where N is small, and
-/// everywhere to what decoding found of them.
-fn candidates(sheet: &Sheet, r: usize, word: &[u8], found: &Agreeing) -> Vec<Vec<bool>> {
-    let list = dense::candidates(sheet, r, word);
-    if word.len() <= brute::LARGEST_TRIED {
-        assert_eq!(list, brute::candidates(sheet, r, word), "dense and brute");
-    }
-    assert_eq!(list.len(), 1 << found.d, "as many as d says");
-    let ends = (list.first(), list.last());
-    assert_eq!(ends, (Some(&found.first), Some(&found.last)), "its ends");
-    list
 }
 
 /// The open positions, held to the trial of every pair where N is small.
@@ -150,45 +136,6 @@ fn decoded(
     out[..length].copy_from_slice(&found.settled);
     put(&mut out[length..], &transform(&found.first));
     put(&mut out[2 * length..], &transform(&found.last));
-    let code = if found.d == 0 { 0 } else { 1 };
-    Ok(Answer::counted(code, g, m, found.d))
-}
-
-/// Writes every agreeing codeword, each once, in the order of u: records of N bytes end to end.
-pub fn list(
-    n: usize,
-    sheet: &[u8],
-    r: usize,
-    ceiling: usize,
-    word: &[u8],
-    out: &mut [u8],
-) -> Answer {
-    listed(n, sheet, r, ceiling, word, out).unwrap_or_else(|refusal| refusal)
-}
-
-fn listed(
-    n: usize,
-    sheet: &[u8],
-    r: usize,
-    ceiling: usize,
-    word: &[u8],
-    out: &mut [u8],
-) -> Result<Answer, Answer> {
-    let sheet = Sheet::read(n, sheet, r)?;
-    let length = sheet.length();
-    form(word, length, 2)?;
-    let (g, m) = counts(&sheet, r, ceiling, word)?;
-    let Some(found) = agreeing(&sheet, r, word) else {
-        return Ok(Answer::counted(2, g, m, 0));
-    };
-    if found.d > LARGEST_LISTED {
-        return Err(Answer::counted(22, g, m, found.d));
-    }
-    room(out, length << found.d)?;
-    let list = candidates(&sheet, r, word, &found);
-    for (record, u) in out.chunks_mut(length).zip(&list) {
-        put(record, &transform(u));
-    }
     let code = if found.d == 0 { 0 } else { 1 };
     Ok(Answer::counted(code, g, m, found.d))
 }

@@ -75,11 +75,6 @@ fn greedy(mut system: System, length: usize, wanted: bool) -> Vec<bool> {
         .collect()
 }
 
-/// The u of every agreeing codeword of a word, in the order of u; d is small.
-pub fn candidates(sheet: &Sheet, r: usize, word: &[u8]) -> Vec<Vec<bool>> {
-    system(sheet, r, word).map_or(Vec::new(), |system| system.solutions())
-}
-
 /// The agreeing codewords of a word, if any.
 pub fn agreeing(sheet: &Sheet, r: usize, word: &[u8]) -> Option<Agreeing> {
     let length = sheet.length();

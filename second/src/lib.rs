@@ -33,7 +33,6 @@ pub mod make;
 pub mod protocol;
 pub mod show;
 
-pub mod candidates;
 pub mod more;
 pub mod pace;
 pub mod words;

@@ -13,9 +13,6 @@ pub const RECORD_BYTES: usize = 4 + MASK_BYTES;
 /// The largest ceiling on unknowns.
 pub const LARGEST_CEILING: usize = 255;
 
-/// The largest dimension of which the candidates are listed.
-pub const LARGEST_LISTED: usize = 8;
-
 /// Bytes of one strip in an answer record of the stream.
 pub const STRIP_BYTES: usize = 512;
 

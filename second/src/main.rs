@@ -3,7 +3,6 @@
 // The vectors are the bytes of all requests (stdin) and of their answers (stdout).
 
 use second::calls;
-use second::candidates;
 use second::files::{self, first_difference, shown, File};
 use second::limits;
 use second::lot;
@@ -25,7 +24,7 @@ use std::process::ExitCode;
 const USAGE: &str = "usage:
   second vectors DIR            write DIR/stdin and DIR/stdout, the requests and their answers
   second compare DIR            make both again and compare them with the files byte by byte
-  second answer                 answer the requests on standard input, ops 0 to 5, 7 to 9 and 15
+  second answer                 answer the requests on standard input, ops 0 to 5, 7, 8 and 15
   second pace CALL N LOST COUNT LAYOUT
                                 write so many requests to measure by: CALL is check_sheet, encode or
                                 decode, of words that lost so many symbols; LAYOUT is new or old
@@ -33,12 +32,6 @@ const USAGE: &str = "usage:
   second show [--words FILE --lot DIR] [--problems] [--strips]
                                 print the answer records on standard input for a person; with the
                                 words that they answer, and the folder of their sheet, also places
-  second candidates [--words FILE] [--raw] [--payload] DIR RECORD|WORD..
-                                print the candidates of words of a lot, each by the number of its record
-                                in FILE, or DIR/words.bin, or by its symbols: what all share, and where
-                                they differ; with --payload the payloads; with --raw the bytes
-  second list DIR [payload]     write what the program candidates writes of the word on standard input:
-                                the answer and the list; or of a codeword the payload
   second lines                  print what each of them says alone, as soon as it is read
   second words DIR COUNT SEED   write so many damaged words of DIR/sheet.bin and DIR/choice.bin
   second repair DIR MARKS RECORDS
@@ -54,8 +47,7 @@ const USAGE: &str = "usage:
   second sheet n r SEED         write a good sheet of 2 to the n positions, drawn for check length r
   second lots EXAMPLES          write the sample lots, an old sheet and strips, each in its folder
   second compare-lots EXAMPLES  make them again and compare
-  second programs CRATES        write what recover, show, convert, repair and candidates read and
-                                must write
+  second programs CRATES        write what recover, show, convert and repair read and must write
   second compare-programs CRATES
                                 make it again and compare
 ";
@@ -198,12 +190,6 @@ fn stream(dir: &Path) -> io::Result<()> {
         Err(_) => Vec::new(),
     };
     io::stdout().write_all(&calls::answer_records(&sheet, &choice, &words))
-}
-
-/// Lists the candidates of the word on standard input, or reads its payload back.
-fn list(dir: &Path, payload: bool) -> io::Result<()> {
-    let [sheet, choice] = ["sheet.bin", "choice.bin"].map(|name| file_or_empty(dir, name));
-    io::stdout().write_all(&candidates::listed(&sheet, &choice, &input(), payload))
 }
 
 /// Repairs the strips on standard input; does not read them where one record answers all.
@@ -424,14 +410,6 @@ fn run(arguments: &[&str]) -> io::Result<ExitCode> {
             }
             None => return Ok(misused()),
         },
-        ["candidates", arguments @ ..] => {
-            let ended = candidates::run(arguments);
-            eprint!("{}", ended.err);
-            io::stdout().write_all(&ended.out)?;
-            return Ok(ExitCode::from(ended.status));
-        }
-        ["list", dir] => list(Path::new(dir), false)?,
-        ["list", dir, "payload"] => list(Path::new(dir), true)?,
         ["lines"] => lines()?,
         ["words", dir, count, seed] => words(Path::new(dir), count, seed)?,
         ["repair", dir, marks, records] => repair(Path::new(dir), marks, records)?,

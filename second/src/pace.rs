@@ -1,19 +1,16 @@
 // Requests to measure by: one call, so many times, on a Reed-Muller sheet with two names in each
-// frozen record; the list on a sheet with nothing frozen. In the old layout they are the same but for the sheet's bytes, so that a tree from
+// frozen record. In the old layout they are the same but for the sheet's bytes, so that a tree from
 // before W-206 answers them by the same bytes.
 
 use crate::code::ERASED;
 use crate::layout::{Layout, Record, NEW, OLD};
-use crate::limits::{LARGEST_CEILING, LARGEST_LISTED};
+use crate::limits::LARGEST_CEILING;
 use crate::make::{any_codeword, bits};
 use crate::protocol::Request;
 use crate::rng::Rng;
 
-/// The calls that can be measured, each with its op.
-const CALLS: [(&str, usize); 4] = [("check_sheet", 0), ("encode", 1), ("decode", 2), ("list", 9)];
-
-/// The op of the list: on a sheet with every position free, so that each lost symbol doubles it.
-const LIST: usize = 9;
+/// The calls that can be measured, each by its op.
+const CALLS: [&str; 3] = ["check_sheet", "encode", "decode"];
 
 /// The largest ceiling of the old layout.
 const OLD_CEILING: usize = 63;
@@ -47,9 +44,8 @@ impl Pace {
     /// `new` or `old`.
     pub fn new(call: &str, length: &str, lost: &str, layout: &str) -> Result<Pace, String> {
         let number = |text: &str| text.parse().map_err(|_| format!("{text} is no number"));
-        let op = CALLS.iter().find(|&&(other, _)| other == call);
-        let names = CALLS.map(|(name, _)| name).join(", ");
-        let op = op.ok_or(format!("{call} is none of {names}"))?.1;
+        let op = CALLS.iter().position(|&other| other == call);
+        let op = op.ok_or(format!("{call} is none of {}", CALLS.join(", ")))?;
         let layout = match layout {
             "new" => NEW,
             "old" => OLD,
@@ -60,9 +56,6 @@ impl Pace {
         let n = n.ok_or(format!("{length} is no N of this layout"))?;
         if lost > length {
             return Err(format!("{lost} symbols are not there to lose"));
-        }
-        if op == LIST && lost > LARGEST_LISTED {
-            return Err(format!("a word that lost {lost} symbols is not listed"));
         }
         Ok(Pace {
             op,
@@ -75,16 +68,10 @@ impl Pace {
     /// So many requests; the first ones are the same for any count.
     pub fn requests(&self, count: usize) -> Vec<Request> {
         let mut rng = Rng::new(700);
-        let records = match self.op {
-            LIST => vec![Record::default(); 1 << self.n],
-            _ => sheet(self.n),
-        };
+        let records = sheet(self.n);
         let [new, sheet] = [NEW, self.layout].map(|layout| layout.write(&records));
         let k = records.iter().filter(|record| !record.frozen).count();
-        let r = match self.op {
-            LIST => 0,
-            _ => [11, 6, 0].into_iter().find(|&r| r < k).unwrap_or(0),
-        };
+        let r = [11, 6, 0].into_iter().find(|&r| r < k).unwrap_or(0);
         let ceiling = if self.n <= OLD.largest_exponent {
             OLD_CEILING
         } else {
@@ -96,10 +83,7 @@ impl Pace {
             r: r as u16,
             ceiling: ceiling as u16,
             a: sheet,
-            o: match self.op {
-                LIST => 1 << (self.n + self.lost),
-                op => [0, 1, 3][op] << self.n,
-            },
+            o: [0, 1, 3][self.op] << self.n,
             ..Request::default()
         };
         (0..count)

@@ -1,15 +1,13 @@
 // What the programs are held to: for each, its standard input, the files it reads, and what it must
 // write. `recover` answers a stream of words; `show` says what each answer record means; `convert` turns an
-// old sheet into one of today's layout; `repair` repairs strips; `candidates` lists those of a word.
+// old sheet into one of today's layout; `repair` repairs strips.
 
 use crate::answer::Answer;
 use crate::calls::{answer_record, answer_records, strip_answers};
-use crate::candidates::listed;
 use crate::files::File;
 use crate::layout::NEW;
 use crate::limits::{
-    CARTRIDGE_BYTES, HEADER_BYTES, LARGEST_CEILING, LARGEST_EXPONENT, LARGEST_LISTED, RECORD_BYTES,
-    STRIP_BYTES,
+    CARTRIDGE_BYTES, HEADER_BYTES, LARGEST_CEILING, LARGEST_EXPONENT, RECORD_BYTES, STRIP_BYTES,
 };
 use crate::lot::{Lot, LONG, LOT};
 use crate::make::{any_codeword, bits, damaged, good, spoil, Fault, STYLES};
@@ -36,7 +34,6 @@ pub fn files() -> Vec<File> {
         File::new("show", "stdout", text),
     ];
     files.extend(repair_files());
-    files.extend(candidates_files());
     files
 }
 
@@ -73,26 +70,6 @@ fn repair_files() -> Vec<File> {
         File::new("repair", "data/lost.bin", lost),
         File::new("repair", "stdin", strips),
         File::new("repair", "stdout", answers.repaired),
-    ]
-}
-
-/// The longest list: a word of 512 symbols, all of whose positions are free, with eight lost.
-fn candidates_files() -> Vec<File> {
-    let mut rng = Rng::new(540);
-    let length = 1 << LARGEST_EXPONENT;
-    let sheet = good(&mut rng, length, length, STYLES[3]);
-    let choice = vec![11, LARGEST_CEILING as u8];
-    let mut word = any_codeword(&mut rng, LARGEST_EXPONENT, &sheet, 11);
-    // of 19 lost symbols the check settles 11
-    for &j in &rng.order(length)[..LARGEST_LISTED + 11] {
-        word[j] = 2;
-    }
-    let list = listed(&sheet, &choice, &word, false);
-    vec![
-        File::new("candidates", "data/sheet.bin", sheet),
-        File::new("candidates", "data/choice.bin", choice),
-        File::new("candidates", "stdin", word),
-        File::new("candidates", "stdout", list),
     ]
 }
 

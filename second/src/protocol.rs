@@ -14,9 +14,9 @@ pub const OUTPUT_ROOM: usize = 140_000;
 /// What every byte of the output buffer holds before the call.
 pub const BEFORE: u8 = 165;
 
-/// The ops: check_sheet, encode, decode, read_back, stream, convert; repair, view; list; strips end to
+/// The ops: check_sheet, encode, decode, read_back, stream, convert; repair, view; strips end to
 /// end. Any other ends the run.
-pub const OPS: [u16; 10] = [0, 1, 2, 3, 4, 5, 7, 8, 9, 15];
+pub const OPS: [u16; 9] = [0, 1, 2, 3, 4, 5, 7, 8, 15];
 
 #[derive(Clone, Debug, Default, PartialEq, Eq)]
 pub struct Request {
@@ -104,7 +104,6 @@ impl Request {
             5 => calls::convert(n, &self.a, &mut out),
             7 => calls::repair(n, &self.a, r, ceiling, &self.b, &self.c, &mut out),
             8 => self.view(&mut out),
-            9 => calls::list(n, &self.a, r, ceiling, &self.b, &mut out),
             15 => self.repair_strips(&mut out),
             op => panic!("no op {op}"),
         };

@@ -13,7 +13,7 @@ use std::collections::BTreeMap;
 const WIDTH: usize = 100;
 
 /// What a wrapped line goes on with.
-pub const INDENT: &str = "        ";
+const INDENT: &str = "        ";
 
 /// How many patterns of losses are listed.
 const LISTED: usize = 50;
@@ -42,22 +42,12 @@ impl Words {
         (0..=LARGEST_EXPONENT)
             .map(|n| 1 << n)
             .find(|length| sheet.len() == RECORD_BYTES * length)
-            .map(|length| Words::of(length, bytes))
-    }
-
-    /// Words of so many symbols.
-    pub fn of(length: usize, bytes: Vec<u8>) -> Words {
-        Words { length, bytes }
+            .map(|length| Words { length, bytes })
     }
 
     /// The word of a record, counted from 0, if it is there.
-    pub fn get(&self, at: usize) -> Option<&[u8]> {
+    fn get(&self, at: usize) -> Option<&[u8]> {
         self.bytes.chunks(self.length).nth(at)
-    }
-
-    /// How many there are, the cut-off last one too.
-    pub fn count(&self) -> usize {
-        self.bytes.len().div_ceil(self.length)
     }
 }
 
@@ -159,7 +149,7 @@ fn twos(symbols: &[u8]) -> Vec<usize> {
 }
 
 /// Places that rise, neighbours as a range.
-pub fn ranges(places: &[usize]) -> String {
+fn ranges(places: &[usize]) -> String {
     let mut runs: Vec<(usize, usize)> = Vec::new();
     for &place in places {
         match runs.last_mut() {
@@ -180,7 +170,7 @@ pub fn ranges(places: &[usize]) -> String {
 }
 
 /// What is to be said of places, if anything.
-pub fn places(record: &[u8], word: Option<&[u8]>) -> Option<String> {
+fn places(record: &[u8], word: Option<&[u8]>) -> Option<String> {
     let code = number(record, 0);
     let open = twos(strip(record, 0));
     let Some(word) = word else {
@@ -207,9 +197,9 @@ pub fn places(record: &[u8], word: Option<&[u8]>) -> Option<String> {
     }
 }
 
-/// A line that starts with a number, in as many lines as it takes, none longer than the width but for one
-/// piece that is. The number stays with the piece behind it; spaces at a break are dropped.
-pub fn wrapped(line: &str, most: usize) -> String {
+/// A line that starts with a number, in as many lines as it takes. The number stays with the piece
+/// behind it; spaces at a break are dropped.
+fn wrapped(line: &str) -> String {
     let piece = |from: usize| {
         let word = from + line[from..].find(|c| c != ' ').unwrap_or(0);
         let end = line[word..].find(' ').map_or(line.len(), |at| word + at);
@@ -223,7 +213,7 @@ pub fn wrapped(line: &str, most: usize) -> String {
         let start = end;
         let word;
         (word, end) = piece(start);
-        if width + end - start <= most {
+        if width + end - start <= WIDTH {
             text += &line[start..end];
             width += end - start;
         } else {
@@ -240,7 +230,7 @@ fn entry(number_of: usize, record: &[u8], word: Option<&[u8]>, strips: bool) -> 
     if let Some(places) = places(record, word) {
         line += &format!("  {places}");
     }
-    let mut text = wrapped(&line, WIDTH);
+    let mut text = wrapped(&line);
     let names: &[&str] = match number(record, 0) {
         0 if strips => &["word"],
         1 if strips => &["settled", "first", "last"],
@@ -321,12 +311,12 @@ impl Pattern {
         if !open.is_empty() {
             line += &format!("; open {}", ranges(open));
         }
-        wrapped(&line, WIDTH)
+        wrapped(&line)
     }
 }
 
 /// A number with its noun.
-pub fn many(count: usize, noun: &str) -> String {
+fn many(count: usize, noun: &str) -> String {
     match count {
         1 => format!("1 {noun}"),
         _ => format!("{count} {noun}s"),

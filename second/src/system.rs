@@ -58,31 +58,6 @@ impl System {
     pub fn dimension(&self) -> usize {
         self.rows.iter().filter(|row| row.is_none()).count()
     }
-
-    /// The solution whose unknowns that are first in no equation hold these bits, the last unknown the
-    /// first bit: each other is what its own equation says, when all behind it are known.
-    fn solution(&self, mut bits: impl Iterator<Item = bool>) -> Vec<bool> {
-        let mut solution = vec![false; self.rows.len()];
-        for p in (0..solution.len()).rev() {
-            solution[p] = match &self.rows[p] {
-                None => bits.next().expect("a bit for each such unknown"),
-                Some(row) => (row.unknowns.iter().zip(&solution).skip(p + 1))
-                    .fold(row.value, |sum, (&marked, &bit)| sum ^ (marked & bit)),
-            };
-        }
-        solution
-    }
-
-    /// Every solution, sorted: compared from the first unknown on, 0 before 1.
-    pub fn solutions(&self) -> Vec<Vec<bool>> {
-        let d = self.dimension();
-        let choices = 0..1usize << d;
-        let mut list: Vec<Vec<bool>> = choices
-            .map(|t| self.solution((0..d).map(|bit| t >> bit & 1 == 1)))
-            .collect();
-        list.sort();
-        list
-    }
 }
 
 /// The one unknown i marked.

@@ -1,5 +1,5 @@
-// The commands as they are run: stream, show, candidates, lines, sheet, words, repair, strips, every,
-// more, pace, and the comparisons.
+// The commands as they are run: stream, show, lines, sheet, words, repair, strips, every, more, pace,
+// and the comparisons.
 
 mod common;
 use common::{folder, lone, record, sheet_e, symbols};
@@ -174,42 +174,6 @@ fn show_with_words() {
     }
     drop(input);
     assert!(child.wait().unwrap().success());
-}
-
-#[test]
-fn candidates_of_a_word() {
-    let dir = stream_folder("candidates", Some(&sheet_e()), Some(&[0, 63]));
-    let dir = dir.to_str().unwrap();
-    let text = written(&["candidates", dir, "02211220"], &[]);
-    let start = "  word  ambiguous     g   1  m   1  d   1  lost 1-2, 5-6; settled none; open\n";
-    assert!(String::from_utf8(text).unwrap().starts_with(start));
-    let bytes = written(&["candidates", "--raw", dir, "02211220"], &[]);
-    assert_eq!(bytes, symbols("0111100000011110"));
-    for (arguments, status, out, err) in [
-        (
-            &[dir, "11111000"][..],
-            1,
-            "  word  inconsistent  g   0  m   4  d   0  nothing lost\n",
-            "",
-        ),
-        (
-            &["--raw", dir],
-            2,
-            "",
-            "usage: candidates [--words FILE] [--raw] [--payload] DIR RECORD|WORD..\n",
-        ),
-        (
-            &[dir, "12"],
-            1,
-            "",
-            &format!("candidates: cannot read {dir}/words.bin\n"),
-        ),
-    ] {
-        let output = run(&[&["candidates"], arguments].concat(), &[]);
-        assert_eq!(output.status.code(), Some(status));
-        assert_eq!(String::from_utf8(output.stdout).unwrap(), out);
-        assert_eq!(String::from_utf8(output.stderr).unwrap(), err);
-    }
 }
 
 #[test]

@@ -1,7 +1,6 @@
-// What an answer says: its five numbers, the start of its record, and whether a call can go on; the verdict of a word with
-// which some codewords agree. And the pieces of an input.
+// What an answer says: its five numbers, the start of its record, and whether a call can go on. And the pieces of an input.
 ghost use Rattle.std.specs.Prelude.{◌≡◌};
-ghost use Rattle.meaning.specs.Answers.{numbersOf, foundOf, isDone};
+ghost use Rattle.meaning.specs.Answers.{numbersOf, isDone};
 ghost use Rattle.meaning.specs.Stream.{header};
 
 pub mod pieces;
@@ -27,7 +26,6 @@ pub fn numbers(a: Answer) -> [usize; 5]
         Answer::BadCeiling => [17, 0, 0, 0, 0],
         Answer::TooMany { g } => [18, 0, g, 0, 0],
         Answer::HoldsNothing => [19, 0, 0, 0, 0],
-        Answer::TooAmbiguous { g, m, d } => [22, 0, g, m, d],
     }
 }
 
@@ -56,17 +54,6 @@ pub fn header(a: Answer) -> [u8; limits::HEAD]
     ]
 }
 
-// The verdict of a word of g unknowns and m equations with which 2 to the d codewords agree: Unique where d is 0, else
-// Ambiguous.
-pub fn found(g: usize, m: usize, d: usize) -> Answer
-    ensures { result ≡ foundOf g m d }
-{
-    if d == 0 {
-        return Answer::Unique { g, m };
-    }
-    Answer::Ambiguous { g, m, d }
-}
-
 // Whether an answer is Done, so that a call can go on.
 pub fn is_done(a: Answer) -> bool
     ensures { result ≡ isDone a }
@@ -90,6 +77,5 @@ pub fn is_done(a: Answer) -> bool
         Answer::BadCeiling => false,
         Answer::TooMany { g: _ } => false,
         Answer::HoldsNothing => false,
-        Answer::TooAmbiguous { g: _, m: _, d: _ } => false,
     }
 }

@@ -25,9 +25,7 @@ module _ {f : ℕ → ℕ} {m : ℕ} {l : List ℕ} {i : ℕ} (p : Filling f m l
       record {
         some = omega arith;
         size = length-set l i x ∙ p.size;
-        is =
-            rw (add-one i) (take-suc-set l i x (omega arith)) ∙ ap {B = List ℕ} (λ t. t ++ (x ∷ [])) p.is
-            ∙ ap {B = List ℕ} (λ y. tab i f ++ (y ∷ [])) e ∙ sym (tab_snoc i f);
+        is = rw (add-one i) (take-suc-set l i x (omega arith)) ∙ ap {B = List ℕ} (λ t. t ++ (x ∷ [])) p.is ∙ ap {B = List ℕ} (λ y. tab i f ++ (y ∷ [])) e ∙ sym (tab_snoc i f);
       }
 
   pub filling_all : m ≤ i → l ≡ tab m f

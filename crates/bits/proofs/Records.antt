@@ -1,5 +1,5 @@
 -- Records of one length, end to end.
---     flatten_append, flatten-one, flatten_each     lists made flat: of two lists, of one record, at once or one by one
+--     flatten_append, flatten_one, flatten_each     lists made flat: of two lists, of one record, at once or one by one
 --     wide-tab          a table of records of one length
 --     record_of_lem         record k of bytes that start with records
 --     put_record        the next record put behind those before it
@@ -21,9 +21,9 @@ unfolding flatten
 flatten_append [] b = refl
 flatten_append {A} (x ∷ a) b = ap (λ (t : List A). x ++ t) (flatten_append a b) ∙ sym (append_assoc x (flatten a) (flatten b))
 
-pub flatten-one : {A : Type 0} (x : List A) → flatten (x ∷ []) ≡ x
+pub flatten_one : {A : Type 0} (x : List A) → flatten (x ∷ []) ≡ x
 unfolding flatten
-flatten-one x = append-nil x
+flatten_one x = append-nil x
 
 pub flatten_each : {A B : Type 0} (f : A → List (List B)) (l : List A) → flatten (flatten (map f l)) ≡ flatten (map (λ (a : A). flatten (f a)) l)
 unfolding flatten
@@ -43,8 +43,7 @@ module _ (A : ℕ) (f : ℕ → List ℕ) (h : (i : ℕ) → length (f i) ≡ A)
   tab-long i = length-flatten A (tab i f) (wide-tab A i f h) ∙ ap (λ (k : ℕ). k * A) (length-tab i f)
 
   -- l holds i records and goes on as o; x is put behind them
-  pub put_record : (i : ℕ) (l x : List ℕ) → l ≡ flatten (tab i f) ++ drop (i * A) o → x ≡ f i
-      → put_mid (i * A) (i * A + A - i * A) l x ≡ flatten (tab (i + 1) f) ++ drop ((i + 1) * A) o
+  pub put_record : (i : ℕ) (l x : List ℕ) → l ≡ flatten (tab i f) ++ drop (i * A) o → x ≡ f i → put_mid (i * A) (i * A + A - i * A) l x ≡ flatten (tab (i + 1) f) ++ drop ((i + 1) * A) o
   put_record i l x el e =
       let k : i * A + A - i * A ≡ A = omega arith in
       let m : i * A + A ≡ (i + 1) * A = omega arith in
@@ -53,5 +52,4 @@ module _ (A : ℕ) (f : ℕ → List ℕ) (h : (i : ℕ) → length (f i) ≡ A)
       ∙ ap₂ {C = List ℕ} (λ t j. flatten (tab i f) ++ (t ++ drop j (drop (i * A) o))) e k
       ∙ ap (λ (t : List ℕ). flatten (tab i f) ++ (f i ++ t)) (drop-drop A (i * A) o ∙ ap (λ (j : ℕ). drop j o) m)
       ∙ sym (append_assoc (flatten (tab i f)) (f i) (drop ((i + 1) * A) o))
-      ∙ ap (λ (t : List ℕ). t ++ drop ((i + 1) * A) o)
-      (sym (ap flatten (tab_snoc i f) ∙ flatten_append (tab i f) (f i ∷ []) ∙ ap (λ (t : List ℕ). flatten (tab i f) ++ t) (flatten-one (f i))))
+      ∙ ap (λ (t : List ℕ). t ++ drop ((i + 1) * A) o) (sym (ap flatten (tab_snoc i f) ∙ flatten_append (tab i f) (f i ∷ []) ∙ ap (λ (t : List ℕ). flatten (tab i f) ++ t) (flatten_one (f i))))

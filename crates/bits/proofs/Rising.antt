@@ -87,16 +87,13 @@ unfolding all_bits
 all-bits zero [] h = Memᴰ.head refl
 all-bits zero (b ∷ u) h = absurd (omega arith)
 all-bits (suc n) [] h = absurd (omega arith)
-all-bits (suc n) (false ∷ u) h =
-    Memᴰ.append_left (map (λ (v : List Bool). true ∷ v) (all_bits n)) (Memᴰ.map (λ (v : List Bool). false ∷ v) (all-bits n u (suc_inj h)))
-all-bits (suc n) (true ∷ u) h =
-    Memᴰ.append_right (map (λ (v : List Bool). false ∷ v) (all_bits n)) (Memᴰ.map (λ (v : List Bool). true ∷ v) (all-bits n u (suc_inj h)))
+all-bits (suc n) (false ∷ u) h = Memᴰ.append_left (map (λ (v : List Bool). true ∷ v) (all_bits n)) (Memᴰ.map (λ (v : List Bool). false ∷ v) (all-bits n u (suc_inj h)))
+all-bits (suc n) (true ∷ u) h = Memᴰ.append_right (map (λ (v : List Bool). false ∷ v) (all_bits n)) (Memᴰ.map (λ (v : List Bool). true ∷ v) (all-bits n u (suc_inj h)))
 
 pub bits-length : (n : ℕ) (u : List Bool) → Memᴰ u (all_bits n) → length u ≡ n
 unfolding all_bits
 bits-length zero u m = ⊎_elim (λ e. rw e) (λ k. absurd (Memᴰ.not-nil k)) (Memᴰ.cases_cons m)
-bits-length (suc n) u m =
-    ⊎_elim (go (bits-length n) false) (go (bits-length n) true) (Memᴰ.append_cases (map (λ (v : List Bool). false ∷ v) (all_bits n)) m)
+bits-length (suc n) u m = ⊎_elim (go (bits-length n) false) (go (bits-length n) true) (Memᴰ.append_cases (map (λ (v : List Bool). false ∷ v) (all_bits n)) m)
   where
     go : ((v : List Bool) → Memᴰ v (all_bits n) → length v ≡ n) → (b : Bool) → Memᴰ u (map (λ (v : List Bool). b ∷ v) (all_bits n)) → length u ≡ suc n
     go below b k = let t = Memᴰ.of_map (λ (v : List Bool). b ∷ v) (all_bits n) k in rw (← t.2) (ap suc (below t.0 t.1))
@@ -139,8 +136,7 @@ bits-any p n u l h = mem_any p (all-bits n u l) h
 pub count_bits : (p q : List Bool → Bool) (n : ℕ) → ((u : List Bool) → length u ≡ n → p u ≡ q u) → count p (all_bits n) ≡ count q (all_bits n)
 count_bits p q n h = count_ext p q (all_bits n) (λ u m. h u (bits-length n u m))
 
-pub count-suc : (p : List Bool → Bool) (n : ℕ)
-    → count p (all_bits (suc n)) ≡ count (λ (v : List Bool). p (false ∷ v)) (all_bits n) + count (λ (v : List Bool). p (true ∷ v)) (all_bits n)
+pub count-suc : (p : List Bool → Bool) (n : ℕ) → count p (all_bits (suc n)) ≡ count (λ (v : List Bool). p (false ∷ v)) (all_bits n) + count (λ (v : List Bool). p (true ∷ v)) (all_bits n)
 unfolding all_bits
 count-suc p n = simp (count_append, count_map)
 
@@ -151,10 +147,7 @@ count-shift p zero [] h = refl
 count-shift p zero (b ∷ d) h = absurd (omega arith)
 count-shift p (suc n) [] h = absurd (omega arith)
 count-shift p (suc n) (false ∷ d) h =
-    count-suc (λ (u : List Bool). p (u ⊞ (false ∷ d))) n
-    ∙ ap₂ ◌+◌ (count-shift (λ (v : List Bool). p (false ∷ v)) n d (suc_inj h)) (count-shift (λ (v : List Bool). p (true ∷ v)) n d (suc_inj h))
-    ∙ sym (count-suc p n)
+    count-suc (λ (u : List Bool). p (u ⊞ (false ∷ d))) n ∙ ap₂ ◌+◌ (count-shift (λ (v : List Bool). p (false ∷ v)) n d (suc_inj h)) (count-shift (λ (v : List Bool). p (true ∷ v)) n d (suc_inj h)) ∙ sym (count-suc p n)
 count-shift p (suc n) (true ∷ d) h =
-    count-suc (λ (u : List Bool). p (u ⊞ (true ∷ d))) n
-    ∙ ap₂ ◌+◌ (count-shift (λ (v : List Bool). p (true ∷ v)) n d (suc_inj h)) (count-shift (λ (v : List Bool). p (false ∷ v)) n d (suc_inj h))
+    count-suc (λ (u : List Bool). p (u ⊞ (true ∷ d))) n ∙ ap₂ ◌+◌ (count-shift (λ (v : List Bool). p (true ∷ v)) n d (suc_inj h)) (count-shift (λ (v : List Bool). p (false ∷ v)) n d (suc_inj h))
     ∙ add_comm (count (λ (v : List Bool). p (true ∷ v)) (all_bits n)) (count (λ (v : List Bool). p (false ∷ v)) (all_bits n)) ∙ sym (count-suc p n)

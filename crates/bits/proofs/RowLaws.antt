@@ -5,12 +5,12 @@
 --     rows-suc, rows_append                         the first row and the others; the rows of two lists
 --     rows-flatten, flatten-rows, rows_of-flatten    rows joined and cut, cut and joined
 --     wide_rows, wide_at_lem, at_wide                   each row has w words
---     whole-rows, nothing-over, pred_mul            how many rows
+--     whole-rows, pred_mul                          how many rows
 use mathlib.Core.Path.{◌≡◌, refl, sym, ap, ap₂, ◌∙◌}
 use mathlib.Core.Logic.{◌⊎◌, inl, inr, ⊎_elim}
 use Prim.Native.Nat.{ℕ, zero, suc, ◌+◌, ◌-◌, ◌*◌, ◌/◌, ◌%◌, ◌≤◌, ◌<◌}
 use native.Mathlib.Omega.{arith}
-use native.Mathlib.Nat.{zero-mul, add-mul, mul-le-mul_right, div-add-mod', div-eq_of_eq-mul_left, mul-mod_left}
+use native.Mathlib.Nat.{zero-mul, add-mul, mul-le-mul_right, div-add-mod', div-eq_of_eq-mul_left}
 use mathlib.Core.List.{List, [], ◌∷◌, ◌++◌, append_assoc, append-nil, flatten}
 use lib.ListN.{length, take, drop, get_or, length-drop, length-append, take-append-drop}
 use lib.Seq.{length-take-le, get_or-drop, get_or-take, drop-drop, take_all, take-append-le, drop-append-le, take-add, take_at, drop_at}
@@ -61,12 +61,10 @@ module _ (w h : ℕ) (p q : List ℕ) (l : length p ≡ h * w) where
 
 module _ (w h : ℕ) (l : List ℕ) (f : h * w ≤ length l) where
   pub row-take : (j : ℕ) → j < h → row w (take (h * w) l) j ≡ row w l j
-  row-take j hj =
-      sym (row-left w h (take (h * w) l) (drop (h * w) l) (length-take-le (h * w) l f) j hj) ∙ ap (λ (x : List ℕ). row w x j) (take-append-drop (h * w) l)
+  row-take j hj = sym (row-left w h (take (h * w) l) (drop (h * w) l) (length-take-le (h * w) l f) j hj) ∙ ap (λ (x : List ℕ). row w x j) (take-append-drop (h * w) l)
 
   pub row_drop : (j : ℕ) → row w (drop (h * w) l) j ≡ row w l (h + j)
-  row_drop j =
-      sym (row-right w h (take (h * w) l) (drop (h * w) l) (length-take-le (h * w) l f) j) ∙ ap (λ (x : List ℕ). row w x (h + j)) (take-append-drop (h * w) l)
+  row_drop j = sym (row-right w h (take (h * w) l) (drop (h * w) l) (length-take-le (h * w) l f) j) ∙ ap (λ (x : List ℕ). row w x (h + j)) (take-append-drop (h * w) l)
 
 -- ---- a list of words and its rows
 
@@ -99,8 +97,7 @@ rows-flatten w rs h = ap (rows w (length rs)) (sym (append-nil (flatten rs))) �
 
 -- the rows behind the first
 rows_next : (w n : ℕ) (l : List ℕ) → tab n (λ (i : ℕ). row w l (suc i)) ≡ rows w n (drop w l)
-rows_next w n l =
-    tab_below n (λ (i : ℕ). row w l (suc i)) (row w (drop w l)) (λ i p. let q : suc i * w ≡ w + i * w = omega arith in rw (q, ← drop-drop (i * w) w l) refl)
+rows_next w n l = tab_below n (λ (i : ℕ). row w l (suc i)) (row w (drop w l)) (λ i p. let q : suc i * w ≡ w + i * w = omega arith in rw (q, ← drop-drop (i * w) w l) refl)
 
 pub rows-suc : (w n : ℕ) (l : List ℕ) → rows w (suc n) l ≡ take w l ∷ rows w n (drop w l)
 rows-suc w n l = rw (zero-mul w, rows_next w n l) refl
@@ -148,10 +145,6 @@ at_wide w (r ∷ rs) h = (h 0 (omega arith), at_wide w rs (λ i l. h (suc i) (om
 -- a length with no remainder is whole rows
 pub whole-rows : (n w : ℕ) → n % w ≡ 0 → n ≡ n / w * w
 whole-rows n w h = let d = div-add-mod' n w in omega arith
-
--- and whole rows leave nothing over
-pub nothing-over : (w n : ℕ) → n ≡ n / w * w → n % w ≡ 0
-nothing-over w n h = ap (λ (t : ℕ). t % w) h ∙ mul-mod_left (n / w) w
 
 -- the first of n rows apart
 pub pred_mul : (n w : ℕ) → 0 < n → (n - 1) * w + w ≡ n * w

@@ -1,6 +1,6 @@
 -- The XOR of rows, and their bits.
 --     get_or-⊻, length-⊻, ⊻-comm, ⊻-assoc, ⊻-left-comm, ⊻-self     the XOR word by word; its laws
---     get_or-nought, nought-⊻, one-⊻     a word of the row of zeros; a row of zeros added, and one with a single word
+--     get_or-nought, nought-⊻, one_⊻     a word of the row of zeros; a row of zeros added, and one with a single word
 --     has-⊻, has-is          each bit of a sum; bit 64 k + j is bit j of word k
 use mathlib.Core.Path.{◌≡◌, refl, sym, ap, ap₂, ◌∙◌}
 use Prim.Native.Nat.{ℕ, zero, suc, ◌+◌, ◌*◌, ◌/◌, ◌%◌, ◌<◌}
@@ -66,12 +66,12 @@ get_or-nought (suc w) zero = refl
 get_or-nought (suc w) (suc k) = get_or-nought w k
 
 -- a row of zeros but for one word, added
-pub one-⊻ : (w c a : ℕ) (x : Row) → c < w → length x ≡ w → set (nought_row w) c a ⊻ x ≡ set x c (bit_xor a (get_or x c 0))
+pub one_⊻ : (w c a : ℕ) (x : Row) → c < w → length x ≡ w → set (nought_row w) c a ⊻ x ≡ set x c (bit_xor a (get_or x c 0))
 unfolding ◌⊻◌
-one-⊻ zero c a x p h = absurd (omega arith)
-one-⊻ (suc w) c a [] p h = absurd (omega arith)
-one-⊻ (suc w) zero a (b ∷ x) p h = ap (λ (r : List ℕ). bit_xor a b ∷ r) (nought-⊻ w x (suc_inj h))
-one-⊻ (suc w) (suc c) a (b ∷ x) p h = ap₂ {C = List ℕ} ◌∷◌ (xor_zero_l b) (one-⊻ w c a x (omega arith) (suc_inj h))
+one_⊻ zero c a x p h = absurd (omega arith)
+one_⊻ (suc w) c a [] p h = absurd (omega arith)
+one_⊻ (suc w) zero a (b ∷ x) p h = ap (λ (r : List ℕ). bit_xor a b ∷ r) (nought-⊻ w x (suc_inj h))
+one_⊻ (suc w) (suc c) a (b ∷ x) p h = ap₂ {C = List ℕ} ◌∷◌ (xor_zero_l b) (one_⊻ w c a x (omega arith) (suc_inj h))
 
 -- ---- bits
 

@@ -145,8 +145,7 @@ module _ (w n : ℕ) (v : List ℕ) (lv : length v ≡ n * w) (i : ℕ) (x : Row
   row_other j ne = ap (λ (l : List ℕ). row w l j) e ∙ paste-apart v x (i * w) w (row_room w n v lv i h) lx (j * w) (rows_apart i j w (λ q. ne (sym q)))
 
 -- a row written behind n rows
-pub rows-put : (w n : ℕ) (l l' : List ℕ) (x : Row) → n * w + w ≤ length l
-    → length x ≡ w → l' ≡ paste l (n * w) x w → rows w (n + 1) l' ≡ rows w n l ++ (x ∷ [])
+pub rows-put : (w n : ℕ) (l l' : List ℕ) (x : Row) → n * w + w ≤ length l → length x ≡ w → l' ≡ paste l (n * w) x w → rows w (n + 1) l' ≡ rows w n l ++ (x ∷ [])
 rows-put w n l l' x h lx e =
     tab_snoc n (row w l')
     ∙ ap₂ (λ (a : List Row) (b : Row). a ++ (b ∷ []))

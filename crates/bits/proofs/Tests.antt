@@ -7,9 +7,8 @@ use Prim.Native.Nat.{ℕ, zero, suc, ◌+◌, ◌≤◌, ◌<◌}
 use native.Mathlib.Omega.{arith}
 use native.Mathlib.Nat.{zero-add, suc-add}
 use mathlib.Core.Bool.{Bool, true, false, ◌&&◌, ◌||◌, false≢true, true≢false}
-use mathlib.Core.List.{List, [], ◌∷◌, ◌++◌, map, Sublistᴰ}
 use mathlib.Core.List.Memᴰ
-use mathlib.Core.List.{Memᴰ}
+use mathlib.Core.List.{List, [], ◌∷◌, ◌++◌, map, Sublistᴰ, Memᴰ}
 use lib.ListN.{length, drop, get_or, replicate, drop_of_length-le}
 use lib.Seq.{drop-cons}
 use Rattle.bits.specs.Vectors.{filter, keep, any, all, count, bit, pick, first_place, tab}
@@ -59,8 +58,7 @@ module _ {A : Type 0} where
   any_mem p [] h = absurd (false≢true h)
   any_mem p (x ∷ l) h = go (p x) refl (any_mem p l) h
     where
-      go : (b : Bool) → p x ≡ b → (any p l ≡ true → (a : A) × Memᴰ a l × (p a ≡ true))
-          → b || any p l ≡ true → (a : A) × Memᴰ a (x ∷ l) × (p a ≡ true)
+      go : (b : Bool) → p x ≡ b → (any p l ≡ true → (a : A) × Memᴰ a l × (p a ≡ true)) → b || any p l ≡ true → (a : A) × Memᴰ a (x ∷ l) × (p a ≡ true)
       go true e f k = (x, Memᴰ.head refl, e)
       go false e f k = let t = f k in (t.0, Memᴰ.tail t.1, t.2)
 
@@ -80,8 +78,7 @@ module _ {A : Type 0} where
   not-all p [] h = absurd (true≢false h)
   not-all p (x ∷ l) h = go (p x) refl (not-all p l) h
     where
-      go : (b : Bool) → p x ≡ b → (all p l ≡ false → (a : A) × Memᴰ a l × (p a ≡ false))
-          → b && all p l ≡ false → (a : A) × Memᴰ a (x ∷ l) × (p a ≡ false)
+      go : (b : Bool) → p x ≡ b → (all p l ≡ false → (a : A) × Memᴰ a l × (p a ≡ false)) → b && all p l ≡ false → (a : A) × Memᴰ a (x ∷ l) × (p a ≡ false)
       go false e f k = (x, Memᴰ.head refl, e)
       go true e f k = let t = f k in (t.0, Memᴰ.tail t.1, t.2)
 
@@ -89,8 +86,7 @@ module _ {A : Type 0} where
   filter_mem p [] m = absurd (Memᴰ.not-nil m)
   filter_mem p (x ∷ l) {a} m = go (p x) refl (filter_mem p l) m
     where
-      go : (b : Bool) → p x ≡ b → (Memᴰ a (filter p l) → Memᴰ a l × (p a ≡ true))
-          → Memᴰ a (keep b x (filter p l)) → Memᴰ a (x ∷ l) × (p a ≡ true)
+      go : (b : Bool) → p x ≡ b → (Memᴰ a (filter p l) → Memᴰ a l × (p a ≡ true)) → Memᴰ a (keep b x (filter p l)) → Memᴰ a (x ∷ l) × (p a ≡ true)
       go true e f k = ⊎_elim (λ q. (Memᴰ.head q, rw q e)) (λ t. (Memᴰ.tail (f t).0, (f t).1)) (Memᴰ.cases_cons k)
       go false e f k = (Memᴰ.tail (f k).0, (f k).1)
 
@@ -122,8 +118,7 @@ module _ {A : Type 0} where
   filter-filter p q [] = refl
   filter-filter p q (x ∷ l) = go (q x) (filter-filter p q l)
     where
-      go : (b : Bool) → filter p (filter q l) ≡ filter (λ (a : A). q a && p a) l
-          → filter p (keep b x (filter q l)) ≡ keep (b && p x) x (filter (λ (a : A). q a && p a) l)
+      go : (b : Bool) → filter p (filter q l) ≡ filter (λ (a : A). q a && p a) l → filter p (keep b x (filter q l)) ≡ keep (b && p x) x (filter (λ (a : A). q a && p a) l)
       go true e = rw e
       go false e = e
 
@@ -136,8 +131,7 @@ module _ {A B : Type 0} (f : A → B) (p : B → Bool) where
   filter_map [] = refl
   filter_map (x ∷ l) = go (p (f x)) (filter_map l)
     where
-      go : (b : Bool) → filter p (map f l) ≡ map f (filter (λ (a : A). p (f a)) l)
-          → keep b (f x) (filter p (map f l)) ≡ map f (keep b x (filter (λ (a : A). p (f a)) l))
+      go : (b : Bool) → filter p (map f l) ≡ map f (filter (λ (a : A). p (f a)) l) → keep b (f x) (filter p (map f l)) ≡ map f (keep b x (filter (λ (a : A). p (f a)) l))
       go true e = ap {B = List B} (λ r. f x ∷ r) e
       go false e = e
 
@@ -179,17 +173,14 @@ module _ {A : Type 0} where
 
 pub tab_below : {A : Type 0} (n : ℕ) (f g : ℕ → A) → ((i : ℕ) → i < n → f i ≡ g i) → tab n f ≡ tab n g
 tab_below zero f g h = refl
-tab_below {A} (suc n) f g h =
-    ap₂ {C = List A} ◌∷◌ (h zero (omega arith)) (tab_below n (λ (i : ℕ). f (suc i)) (λ (i : ℕ). g (suc i)) (λ i l. h (suc i) (omega arith)))
+tab_below {A} (suc n) f g h = ap₂ {C = List A} ◌∷◌ (h zero (omega arith)) (tab_below n (λ (i : ℕ). f (suc i)) (λ (i : ℕ). g (suc i)) (λ i l. h (suc i) (omega arith)))
 
 pub tab_ext : {A : Type 0} (n : ℕ) (f g : ℕ → A) → ((i : ℕ) → f i ≡ g i) → tab n f ≡ tab n g
 tab_ext n f g h = tab_below n f g (λ i l. h i)
 
 pub tab_append : {A : Type 0} (m n : ℕ) (f : ℕ → A) → tab (m + n) f ≡ tab m f ++ tab n (λ (i : ℕ). f (m + i))
 tab_append zero n f = rw (zero-add n) (tab_ext n f (λ (i : ℕ). f (zero + i)) (λ i. ap f (sym (zero-add i))))
-tab_append {A} (suc m) n f =
-    rw (suc-add m n) (ap {B = List A} (λ t. f zero ∷ t) (tab_append m n (λ (i : ℕ). f (suc i))
-    ∙ ap (λ (t : List A). tab m (λ (i : ℕ). f (suc i)) ++ t) (tab_ext n _ _ (λ i. ap f (sym (suc-add m i))))))
+tab_append {A} (suc m) n f = rw (suc-add m n) (ap {B = List A} (λ t. f zero ∷ t) (tab_append m n (λ (i : ℕ). f (suc i)) ∙ ap (λ (t : List A). tab m (λ (i : ℕ). f (suc i)) ++ t) (tab_ext n _ _ (λ i. ap f (sym (suc-add m i))))))
 
 pub tab_snoc : {A : Type 0} (n : ℕ) (f : ℕ → A) → tab (n + 1) f ≡ tab n f ++ (f n ∷ [])
 tab_snoc zero f = refl
@@ -245,8 +236,7 @@ module _ {A : Type 0} (p : A → Bool) where
   place-first [] d i h = absurd (omega arith)
   place-first (a ∷ l) d i h = go (p a) refl i (λ j q. place-first l d j q) h
     where
-      go : (b : Bool) → p a ≡ b → (i : ℕ) → ((j : ℕ) → j < first_place p l → p (get_or l j d) ≡ false)
-          → i < pick b 0 (suc (first_place p l)) → p (get_or (a ∷ l) i d) ≡ false
+      go : (b : Bool) → p a ≡ b → (i : ℕ) → ((j : ℕ) → j < first_place p l → p (get_or l j d) ≡ false) → i < pick b 0 (suc (first_place p l)) → p (get_or (a ∷ l) i d) ≡ false
       go true e i f q = absurd (omega arith)
       go false e zero f q = e
       go false e (suc i) f q = f i (omega arith)
@@ -267,10 +257,6 @@ pub get_or_map : {A B : Type 0} (f : A → B) (l : List A) (i : ℕ) (d : A) (c 
 get_or_map f [] i d c h = absurd (omega arith)
 get_or_map f (a ∷ l) zero d c h = refl
 get_or_map f (a ∷ l) (suc i) d c h = get_or_map f l i d c (omega arith)
-
-pub map-tab : {A B : Type 0} (f : A → B) (n : ℕ) (g : ℕ → A) → map f (tab n g) ≡ tab n (λ (i : ℕ). f (g i))
-map-tab f zero g = refl
-map-tab {A} {B} f (suc n) g = ap {B = List B} (λ t. f (g 0) ∷ t) (map-tab f n (λ (i : ℕ). g (suc i)))
 
 pub count_none : {A : Type 0} (l : List A) → count (λ (a : A). false) l ≡ 0
 count_none [] = refl

@@ -15,8 +15,7 @@ use mathlib.Core.Path.{◌≡◌, refl, sym, ap, ap₂, ◌∙◌}
 use mathlib.Core.Logic.{⊎_elim}
 use Prim.Native.Nat.{ℕ, zero, suc, ◌+◌, ◌*◌, ◌-◌, ◌/◌, ◌%◌, ◌^◌, ◌≤◌, ◌<◌}
 use native.Mathlib.Omega.{arith}
-use native.Mathlib.Nat.{zero-add, suc-add, mul_assoc, mul-le-mul_right, pow-suc, div-one, div-div-eq-div-mul}
-use native.Mathlib.Nat.{div-eq_of_lt, div-eq_of_lt-le, lt_of_lt_of_le, eq-zero-or-pos}
+use native.Mathlib.Nat.{zero-add, suc-add, mul_assoc, mul-le-mul_right, pow-suc, div-one, div-div-eq-div-mul, div-eq_of_lt, div-eq_of_lt-le, lt_of_lt_of_le, eq-zero-or-pos}
 use mathlib.Core.Bool.{Bool, true, false, ◌&&◌, ◌||◌, true≢false}
 use mathlib.Core.List.{List, ◌∷◌, ◌++◌}
 use lib.ListN.{length, get_or, replicate, get_or-replicate}
@@ -38,8 +37,8 @@ one_xor p q hp hq =
     (bit_cases (λ q. eqb ((0 + q) % 2) 1 ≡ eqb 0 1 ⊕ eqb q 1) refl refl q hq)
     (bit_cases (λ q. eqb ((1 + q) % 2) 1 ≡ eqb 1 1 ⊕ eqb q 1) refl refl q hq) p hp
 
-one-and : (p q : ℕ) → p < 2 → q < 2 → eqb (bit_and p q) 1 ≡ eqb p 1 && eqb q 1
-one-and p q hp hq =
+one_and : (p q : ℕ) → p < 2 → q < 2 → eqb (bit_and p q) 1 ≡ eqb p 1 && eqb q 1
+one_and p q hp hq =
     bit_cases (λ p. eqb (bit_and p q) 1 ≡ eqb p 1 && eqb q 1)
     (bit_cases (λ q. eqb (bit_and 0 q) 1 ≡ eqb 0 1 && eqb q 1) refl refl q hq)
     (bit_cases (λ q. eqb (bit_and 1 q) 1 ≡ eqb 1 1 && eqb q 1) refl refl q hq) p hp
@@ -94,8 +93,7 @@ bit-same j = bit-top (2 ^ j) j (omega arith) (omega (arith, pow_pos j))
 bit_below : (j i : ℕ) → i < j → has_bit (2 ^ j) i ≡ false
 bit_below j i h =
     let s : suc (j - suc i) + i ≡ j = omega arith in
-    let q : 2 ^ j / 2 ^ i ≡ 2 ^ suc (j - suc i) =
-    ap (λ (x : ℕ). 2 ^ x / 2 ^ i) (sym s) ∙ ap (λ (x : ℕ). x / 2 ^ i) (pow-add 2 (suc (j - suc i)) i) ∙ shl-shr (2 ^ suc (j - suc i)) i in
+    let q : 2 ^ j / 2 ^ i ≡ 2 ^ suc (j - suc i) = ap (λ (x : ℕ). 2 ^ x / 2 ^ i) (sym s) ∙ ap (λ (x : ℕ). x / 2 ^ i) (pow-add 2 (suc (j - suc i)) i) ∙ shl-shr (2 ^ suc (j - suc i)) i in
     let z : 2 ^ suc (j - suc i) % 2 ≡ 0 = omega arith in
     ap (λ (x : ℕ). eqb (x % 2) 1) q ∙ ap (λ (x : ℕ). eqb x 1) z
 
@@ -120,7 +118,7 @@ odd-word_bits (suc n) a v h =
     let m = bit_and a v in
     let s : ones m % 2 ≡ (m % 2 + ones (m / 2) % 2) % 2 = omega (arith, ones_step m) in
     sym (ap (λ (k : ℕ). eqb k 1) s ∙ one_xor (m % 2) (ones (m / 2) % 2) (mod_two m) (mod_two (ones (m / 2)))
-    ∙ ap₂ ◌⊕◌ (ap (λ (k : ℕ). eqb k 1) (and_low a v) ∙ one-and (a % 2) (v % 2) (mod_two a) (mod_two v))
+    ∙ ap₂ ◌⊕◌ (ap (λ (k : ℕ). eqb k 1) (and_low a v) ∙ one_and (a % 2) (v % 2) (mod_two a) (mod_two v))
     (ap (λ (k : ℕ). eqb (ones k % 2) 1) (and_half a v) ∙ sym (odd-word_bits n (a / 2) (v / 2) (omega arith))))
 
 pub bit-suc : (a j : ℕ) → bit_at a (suc j) ≡ bit_at (a / 2) j
@@ -144,8 +142,7 @@ join-bits (suc n) m a b h =
     let o : (a + b * 2 ^ suc n) % 2 ≡ a % 2 = omega (arith, e) in
     let q : (a + b * 2 ^ suc n) / 2 ≡ a / 2 + t = omega (arith, e) in
     ap (λ (k : ℕ). word_bits k (a + b * 2 ^ suc n)) (suc-add n m)
-    ∙ ap₂ {C = List Bool} (λ (c d : ℕ). eqb c 1 ∷ word_bits (n + m) d) o q
-    ∙ ap {B = List Bool} (λ l. eqb (a % 2) 1 ∷ l) (join-bits n m (a / 2) b (omega (arith, pow-suc 2 n)))
+    ∙ ap₂ {C = List Bool} (λ (c d : ℕ). eqb c 1 ∷ word_bits (n + m) d) o q ∙ ap {B = List Bool} (λ l. eqb (a % 2) 1 ∷ l) (join-bits n m (a / 2) b (omega (arith, pow-suc 2 n)))
 
 pub join_lt : (n m a b : ℕ) → a < 2 ^ n → b < 2 ^ m → a + b * 2 ^ n < 2 ^ (n + m)
 join_lt n m a b ha hb =
@@ -185,12 +182,8 @@ shl_low n e p x h l =
 pub same_bits : (n a b : ℕ) → a < 2 ^ n → b < 2 ^ n → ((j : ℕ) → j < n → has_bit a j ≡ has_bit b j) → a ≡ b
 same_bits zero a b ha hb h = omega arith
 same_bits (suc n) a b ha hb h =
-    let half =
-    same_bits n (a / 2) (b / 2) (omega arith) (omega arith)
-    (λ j l. ap (λ (x : ℕ). eqb x 1) (sym (bit-suc a j)) ∙ h (suc j) (omega arith) ∙ ap (λ (x : ℕ). eqb x 1) (bit-suc b j)) in
-    let low =
-    low_same (a % 2) (b % 2) (mod_two a) (mod_two b)
-    (ap (λ (x : ℕ). eqb (x % 2) 1) (sym (div-one a)) ∙ h 0 (omega arith) ∙ ap (λ (x : ℕ). eqb (x % 2) 1) (div-one b)) in
+    let half = same_bits n (a / 2) (b / 2) (omega arith) (omega arith) (λ j l. ap (λ (x : ℕ). eqb x 1) (sym (bit-suc a j)) ∙ h (suc j) (omega arith) ∙ ap (λ (x : ℕ). eqb x 1) (bit-suc b j)) in
+    let low = low_same (a % 2) (b % 2) (mod_two a) (mod_two b) (ap (λ (x : ℕ). eqb (x % 2) 1) (sym (div-one a)) ∙ h 0 (omega arith) ∙ ap (λ (x : ℕ). eqb (x % 2) 1) (div-one b)) in
     omega arith
   where
     low_same : (p q : ℕ) → p < 2 → q < 2 → eqb p 1 ≡ eqb q 1 → p ≡ q
@@ -206,6 +199,4 @@ unfolding word_bits
 full-bits = refl
 
 pub full-bit : (j : ℕ) → j < 64 → has_bit full j ≡ true
-full-bit j h =
-    sym (tab-at 64 (has_bit full) j false h) ∙ ap (λ (l : List Bool). get_or l j false) (sym (word_bits-tab 64 full) ∙ full-bits)
-    ∙ get_or-replicate 64 j true false h
+full-bit j h = sym (tab-at 64 (has_bit full) j false h) ∙ ap (λ (l : List Bool). get_or l j false) (sym (word_bits-tab 64 full) ∙ full-bits) ∙ get_or-replicate 64 j true false h

@@ -66,10 +66,8 @@ xor_assoc =
     (λ a b c. xor_low (bit_xor a b) c ∙ ap (λ (x : ℕ). bit_xor x (c % 2)) (xor_low a b))
     (λ a b c. xor_low a (bit_xor b c) ∙ ap (bit_xor (a % 2)) (xor_low b c))
     (λ x y z hx hy hz. bit_cases (λ x. bit_xor (bit_xor x y) z ≡ bit_xor x (bit_xor y z))
-    (bit_cases (λ y. bit_xor (bit_xor 0 y) z ≡ bit_xor 0 (bit_xor y z)) (bit_cases (λ z. bit_xor (bit_xor 0 0) z ≡ bit_xor 0 (bit_xor 0 z)) refl refl z hz)
-    (bit_cases (λ z. bit_xor (bit_xor 0 1) z ≡ bit_xor 0 (bit_xor 1 z)) refl refl z hz) y hy)
-    (bit_cases (λ y. bit_xor (bit_xor 1 y) z ≡ bit_xor 1 (bit_xor y z)) (bit_cases (λ z. bit_xor (bit_xor 1 0) z ≡ bit_xor 1 (bit_xor 0 z)) refl refl z hz)
-    (bit_cases (λ z. bit_xor (bit_xor 1 1) z ≡ bit_xor 1 (bit_xor 1 z)) refl refl z hz) y hy)
+    (bit_cases (λ y. bit_xor (bit_xor 0 y) z ≡ bit_xor 0 (bit_xor y z)) (bit_cases (λ z. bit_xor (bit_xor 0 0) z ≡ bit_xor 0 (bit_xor 0 z)) refl refl z hz) (bit_cases (λ z. bit_xor (bit_xor 0 1) z ≡ bit_xor 0 (bit_xor 1 z)) refl refl z hz) y hy)
+    (bit_cases (λ y. bit_xor (bit_xor 1 y) z ≡ bit_xor 1 (bit_xor y z)) (bit_cases (λ z. bit_xor (bit_xor 1 0) z ≡ bit_xor 1 (bit_xor 0 z)) refl refl z hz) (bit_cases (λ z. bit_xor (bit_xor 1 1) z ≡ bit_xor 1 (bit_xor 1 z)) refl refl z hz) y hy)
     x hx)
 
 pub and_xor : (a b c : ℕ) → bit_and (bit_xor a b) c ≡ bit_xor (bit_and a c) (bit_and b c)
@@ -80,12 +78,8 @@ and_xor =
     (λ a b c. and_low (bit_xor a b) c ∙ ap (λ (x : ℕ). bit_and x (c % 2)) (xor_low a b))
     (λ a b c. xor_low (bit_and a c) (bit_and b c) ∙ ap₂ bit_xor (and_low a c) (and_low b c))
     (λ x y z hx hy hz. bit_cases (λ x. bit_and (bit_xor x y) z ≡ bit_xor (bit_and x z) (bit_and y z))
-    (bit_cases (λ y. bit_and (bit_xor 0 y) z ≡ bit_xor (bit_and 0 z) (bit_and y z))
-    (bit_cases (λ z. bit_and (bit_xor 0 0) z ≡ bit_xor (bit_and 0 z) (bit_and 0 z)) refl refl z hz)
-    (bit_cases (λ z. bit_and (bit_xor 0 1) z ≡ bit_xor (bit_and 0 z) (bit_and 1 z)) refl refl z hz) y hy)
-    (bit_cases (λ y. bit_and (bit_xor 1 y) z ≡ bit_xor (bit_and 1 z) (bit_and y z))
-    (bit_cases (λ z. bit_and (bit_xor 1 0) z ≡ bit_xor (bit_and 1 z) (bit_and 0 z)) refl refl z hz)
-    (bit_cases (λ z. bit_and (bit_xor 1 1) z ≡ bit_xor (bit_and 1 z) (bit_and 1 z)) refl refl z hz) y hy)
+    (bit_cases (λ y. bit_and (bit_xor 0 y) z ≡ bit_xor (bit_and 0 z) (bit_and y z)) (bit_cases (λ z. bit_and (bit_xor 0 0) z ≡ bit_xor (bit_and 0 z) (bit_and 0 z)) refl refl z hz) (bit_cases (λ z. bit_and (bit_xor 0 1) z ≡ bit_xor (bit_and 0 z) (bit_and 1 z)) refl refl z hz) y hy)
+    (bit_cases (λ y. bit_and (bit_xor 1 y) z ≡ bit_xor (bit_and 1 z) (bit_and y z)) (bit_cases (λ z. bit_and (bit_xor 1 0) z ≡ bit_xor (bit_and 1 z) (bit_and 0 z)) refl refl z hz) (bit_cases (λ z. bit_and (bit_xor 1 1) z ≡ bit_xor (bit_and 1 z) (bit_and 1 z)) refl refl z hz) y hy)
     x hx)
 
 -- the count of a xor
@@ -94,19 +88,7 @@ unfolding ones
 ones_upto zero a b ha hb = rw (le_zero a ha, le_zero b hb) refl
 ones_upto (suc n) a b ha hb =
     let ih = ones_upto n (a / 2) (b / 2) (omega arith) (omega arith) in
-    omega (
-      arith,
-      ih,
-      ones_step (bit_xor a b),
-      ones_step (bit_and a b),
-      ones_step a,
-      ones_step b,
-      ap ones (xor_half a b),
-      ap ones (and_half a b),
-      xor_low a b,
-      and_low a b,
-      xor_add_and (a % 2) (b % 2),
-    )
+    omega (arith, ih, ones_step (bit_xor a b), ones_step (bit_and a b), ones_step a, ones_step b, ap ones (xor_half a b), ap ones (and_half a b), xor_low a b, and_low a b, xor_add_and (a % 2) (b % 2))
 
 pub ones_xor : (a b : ℕ) → ones (bit_xor a b) + ones (bit_and a b) * 2 ≡ ones a + ones b
 ones_xor a b = ones_upto (a + b) a b (omega arith) (omega arith)

@@ -1,7 +1,7 @@
 -- The laws of XOR, of bits and of vectors; vectors of zeros.
 --     ⊕-.., ⊞-..            commutative, associative, its own inverse
 --     take-⊞, drop-⊞, append_⊞, get_or-⊞     place by place
---     none, is-none, ⊞-self, zeros_eq      vectors of zeros, and what they tell
+--     none, is_none, ⊞-self, zeros_eq      vectors of zeros, and what they tell
 use mathlib.Core.Path.{◌≡◌, refl, sym, ap, ap₂, ◌∙◌}
 use Prim.Native.Nat.{ℕ, zero, suc}
 use native.Mathlib.Omega.{arith}
@@ -152,11 +152,11 @@ unfolding none
 zeros-none zero = refl
 zeros-none (suc m) = zeros-none m
 
-pub is-none : (u : List Bool) → zeros u ≡ true → u ≡ none (length u)
+pub is_none : (u : List Bool) → zeros u ≡ true → u ≡ none (length u)
 unfolding none
-is-none [] h = refl
-is-none (true ∷ u) h = absurd (false≢true h)
-is-none (false ∷ u) h = ap {B = List Bool} (λ r. false ∷ r) (is-none u h)
+is_none [] h = refl
+is_none (true ∷ u) h = absurd (false≢true h)
+is_none (false ∷ u) h = ap {B = List Bool} (λ r. false ∷ r) (is_none u h)
 
 pub ⊞-self : (u : List Bool) → u ⊞ u ≡ none (length u)
 unfolding none

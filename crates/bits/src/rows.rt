@@ -3,13 +3,6 @@
 ghost use Rattle.std.specs.Prelude.{◌≡◌};
 ghost use Rattle.bits.specs.Rows.{lies, apart, zeroed, copied, added, copied_within, added_within};
 
-// How wide a row of the decoder is: `words` words, the first `coeffs` of them coefficients; the constant is in the next one.
-#[derive(Drop)]
-pub struct Width {
-    pub coeffs: usize,
-    pub words: usize,
-}
-
 // Whether the w words from `at` on lie within n words.
 fn lies(n: usize, at: usize, w: usize) -> bool
     ensures { result ≡ lies n at w }

@@ -30,11 +30,11 @@ use Rattle.checks.proofs.Shifting.{checks-is, length-remainder}
 -- ---- one column
 
 -- two words of one list of rows are at one place only where row and word agree
-place-one : (i j q k w : ℕ) → q < w → k < w → i * w + q ≡ j * w + k → (i ≡ j) × (q ≡ k)
-place-one zero zero q k w hq hk e = (refl, omega arith)
-place-one zero (suc j) q k w hq hk e = absurd (omega arith)
-place-one (suc i) zero q k w hq hk e = absurd (omega arith)
-place-one (suc i) (suc j) q k w hq hk e = let (a, b) = place-one i j q k w hq hk (omega arith) in (ap suc a, b)
+place_one : (i j q k w : ℕ) → q < w → k < w → i * w + q ≡ j * w + k → (i ≡ j) × (q ≡ k)
+place_one zero zero q k w hq hk e = (refl, omega arith)
+place_one zero (suc j) q k w hq hk e = absurd (omega arith)
+place_one (suc i) zero q k w hq hk e = absurd (omega arith)
+place_one (suc i) (suc j) q k w hq hk e = let (a, b) = place_one i j q k w hq hk (omega arith) in (ap suc a, b)
 
 -- below the next number: below this one, or it
 last_or : (i j : ℕ) → i < j + 1 → (i < j) ⊎ (i ≡ j)
@@ -69,10 +69,10 @@ module _ (w k : ℕ) (s e₀ : List ℕ) where
         new =
             λ i hi.
             ⊎_elim
-            (λ (q : i < j). get_or-set_other e (j * w + k) (i * w + k) z 0 (λ x. let y = place-one i j k k w hk hk x in omega arith) ∙ p.new i q)
+            (λ (q : i < j). get_or-set_other e (j * w + k) (i * w + k) z 0 (λ x. let y = place_one i j k k w hk hk x in omega arith) ∙ p.new i q)
             (λ (q : i ≡ j). rw q (get_or-set_same e (j * w + k) z 0 (omega (arith, p.size))))
             (last_or i j hi);
-        old = λ i q hq n. get_or-set_other e (j * w + k) (i * w + q) z 0 (λ x. n (place-one i j q k w hq hk x).1) ∙ p.old i q hq n;
+        old = λ i q hq n. get_or-set_other e (j * w + k) (i * w + q) z 0 (λ x. n (place_one i j q k w hq hk x).1) ∙ p.old i q hq n;
       }
 
   pub putting_all : (e : List ℕ) (j : ℕ) → Putting e j → length s ≤ j → Put w k s e₀ e
@@ -80,8 +80,7 @@ module _ (w k : ℕ) (s e₀ : List ℕ) where
 
 -- ---- all columns
 
-pub columns_next : (r w : ℕ) (f : ℕ → List ℕ) (k : ℕ) (s e₀ e : List ℕ) → ColumnsUpTo r w f k e₀ → Put w k s e₀ e
-    → s ≡ f k → length s ≡ r → k < w → ColumnsUpTo r w f (k + 1) e
+pub columns_next : (r w : ℕ) (f : ℕ → List ℕ) (k : ℕ) (s e₀ e : List ℕ) → ColumnsUpTo r w f k e₀ → Put w k s e₀ e → s ≡ f k → length s ≡ r → k < w → ColumnsUpTo r w f (k + 1) e
 columns_next r w f k s e₀ e p u q l hk j x hj hx =
     ⊎_elim
     (λ (i : x < k). u.old j x (omega arith) (λ n. omega arith) ∙ p j x hj i)
@@ -92,8 +91,7 @@ pub columns_last : (r w : ℕ) (f : ℕ → List ℕ) (k : ℕ) (e : List ℕ) �
 columns_last r w f k e h p j q hj hq = p j q hj (omega arith)
 
 -- for a register whose length is known as r
-pub columns_long : (l r : ℕ) (sheet : List ℕ) (n : ℕ) (us : List ℕ) (w c : ℕ) (e : List ℕ) → l ≡ r
-    → ColumnsUpTo l w (remainder l sheet n us w c) w e → ColumnsUpTo r w (remainder r sheet n us w c) w e
+pub columns_long : (l r : ℕ) (sheet : List ℕ) (n : ℕ) (us : List ℕ) (w c : ℕ) (e : List ℕ) → l ≡ r → ColumnsUpTo l w (remainder l sheet n us w c) w e → ColumnsUpTo r w (remainder r sheet n us w c) w e
 columns_long l r sheet n us w c e q p = subst (λ (x : ℕ). ColumnsUpTo x w (remainder x sheet n us w c) w e) q p
 
 -- ---- column k of the check's rows
@@ -112,10 +110,7 @@ word_bound c w k hc hk =
     }
   where
     go : (t : Bool) → eqb k c ≡ t → get_or (set (replicate w 0) c 1) k 0 ≡ bit t
-    go true e =
-        let q = eqb-true k c e in
-        let l : length (replicate {A = ℕ} w 0) ≡ w = length-replicate w 0 in
-        rw q (get_or-set_same (replicate w 0) c 1 0 (omega arith))
+    go true e = let q = eqb-true k c e in rw q (get_or-set_same (replicate w 0) c 1 0 (let l : length (replicate {A = ℕ} w 0) ≡ w = length-replicate w 0 in omega arith))
     go false e = get_or-set_other (replicate w 0) c k 1 0 (eqb-false k c e) ∙ get_or-replicate w k 0 0 hk
 
 module _ {A B : Type 0} {R : A → B → Type 0} where
@@ -138,8 +133,7 @@ module _ (n : ℕ) (sheet : List ℕ) (r c w : ℕ) (us : List ℕ) (hc : c < w)
   column_bound k hk =
       subst (Along (WordOf w k) (check_of n sheet r c w us)) (checks-is (unit_word c k) r (rules n sheet) (column w (2 ^ n) us k))
       (checks_bound 0 (row_values c w) (word_values (unit_word c k)) (word_bound c w k hc hk) r (rules n sheet)
-      (along_tab (2 ^ n) (row w us) (λ (i : ℕ). get_or us (i * w + k) 0)
-      (λ i h. (get_or_part us (i * w) w k hk, length_part us (i * w) w (let f = row_fit i (2 ^ n) w h in omega arith)))))
+      (along_tab (2 ^ n) (row w us) (λ (i : ℕ). get_or us (i * w + k) 0) (λ i h. (get_or_part us (i * w) w k hk, length_part us (i * w) w (let f = row_fit i (2 ^ n) w h in omega arith)))))
 
   pub length-check : length (check_of n sheet r c w us) ≡ r
   length-check = along_length (column_bound c hc) ∙ length-remainder r sheet (2 ^ n) us w c c

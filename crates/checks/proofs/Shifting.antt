@@ -10,8 +10,7 @@ use native.Mathlib.Omega.{arith}
 use native.Mathlib.Numerals.{add-one}
 use mathlib.Core.Bool.{Bool, true, false}
 use mathlib.Core.List.{List, [], ◌∷◌, ◌++◌, append-nil, append_assoc}
-use lib.ListN.{length, take, drop, get_or, set, replicate, length-set, length-append, length-map, length-replicate}
-use lib.ListN.{get_or-append, replicate-append-replicate, drop_of_length-le}
+use lib.ListN.{length-set, get_or-append, length, take, drop, get_or, set, replicate, length-append, length-map, length-replicate, replicate-append-replicate, drop_of_length-le}
 use lib.Seq.{get_or_at, ext_get_or, drop-cons, take-suc-set, take_all}
 use lib.Dec.{eqb, ltb}
 use lib.Bits.{bit_xor, xor_zero_r}
@@ -99,14 +98,12 @@ module _ (unit : ℕ) where
   sums-nought (a ∷ x) (false ∷ g) e = ap₂ {C = List ℕ} ◌∷◌ (xor_zero_r a) (sums-nought x g (omega arith))
 
   -- words that are shifted in below a run of zeros, as long as they are, stay
-  fills : (r : ℕ) (d l v : List ℕ) → length l + length d ≡ r
-      → rest_of (word_values unit) (poly r) (replicate (length l) 0 ++ d) (l ++ v) ≡ rest_of (word_values unit) (poly r) (d ++ l) v
+  fills : (r : ℕ) (d l v : List ℕ) → length l + length d ≡ r → rest_of (word_values unit) (poly r) (replicate (length l) 0 ++ d) (l ++ v) ≡ rest_of (word_values unit) (poly r) (d ++ l) v
   fills r d [] v e = ap (λ (s : List ℕ). rest_of (word_values unit) (poly r) s v) (sym (append-nil d))
   fills r d (b ∷ l) v e =
       let s : List ℕ = replicate (length l) 0 ++ d in
       let ls : length (s ++ (b ∷ [])) ≡ length (poly r) = simp (length-append, length-replicate) (omega (arith, length-poly r)) in
-      ap (λ (t : List ℕ). rest_of (word_values unit) (poly r) t (l ++ v))
-      (sums-nought (s ++ (b ∷ [])) (poly r) ls ∙ append_assoc (replicate (length l) 0) d (b ∷ []))
+      ap (λ (t : List ℕ). rest_of (word_values unit) (poly r) t (l ++ v)) (sums-nought (s ++ (b ∷ [])) (poly r) ls ∙ append_assoc (replicate (length l) 0) d (b ∷ []))
       ∙ fills r (d ++ (b ∷ [])) l v (simp length-append (omega arith)) ∙ ap (λ (t : List ℕ). rest_of (word_values unit) (poly r) t v) (append_assoc d (b ∷ []) l)
 
   pub checks-is : (r : ℕ) (ks : List Rule) (v : List ℕ) → checks (word_values unit) r ks v ≡ fed_all r (replicate r unit) (free_of ks v)
@@ -114,8 +111,7 @@ module _ (unit : ℕ) where
       let o : List ℕ = replicate r unit in
       let lo : length o ≡ r = length-replicate r unit in
       ap (λ (l : List ℕ). rest_of (word_values unit) (poly r) (replicate r 0) (l ++ free_of ks v)) (leads_are r)
-      ∙ ap (λ (s : List ℕ). rest_of (word_values unit) (poly r) s (o ++ free_of ks v))
-      (ap (λ (m : ℕ). replicate m 0) (sym lo) ∙ sym (append-nil (replicate (length o) 0)))
+      ∙ ap (λ (s : List ℕ). rest_of (word_values unit) (poly r) s (o ++ free_of ks v)) (ap (λ (m : ℕ). replicate m 0) (sym lo) ∙ sym (append-nil (replicate (length o) 0)))
       ∙ fills r [] o (free_of ks v) (omega arith) ∙ rest-is r o (free_of ks v) lo
 
 length-fed_all : (r : ℕ) (s v : List ℕ) → length s ≡ r → length (fed_all r s v) ≡ r
@@ -124,8 +120,7 @@ length-fed_all r s (b ∷ v) e = length-fed_all r (fed r s b) v (length-fed r s 
 
 pub length-remainder : (r : ℕ) (sheet : List ℕ) (n : ℕ) (us : List ℕ) (w c k : ℕ) → length (remainder r sheet n us w c k) ≡ r
 unfolding remainder
-length-remainder r sheet n us w c k =
-    length-fed_all r (replicate r (unit_word c k)) (free_of (tab n (rule_at sheet)) (column w n us k)) (length-replicate r (unit_word c k))
+length-remainder r sheet n us w c k = length-fed_all r (replicate r (unit_word c k)) (free_of (tab n (rule_at sheet)) (column w n us k)) (length-replicate r (unit_word c k))
 
 -- ---- the shift, and then the terms
 
@@ -174,8 +169,7 @@ pub record Started (x : ℕ) (s reg : List ℕ) (j : ℕ) : Type 0 where
 pub started_next : (x : ℕ) (s reg : List ℕ) (j : ℕ) → Started x s reg j → j < length s → Started x s (set reg j x) (j + 1)
 started_next x s reg j p h =
     record {
-      is = ap (λ (m : ℕ). take m (set reg j x)) (add-one j) ∙ take-suc-set reg j x (omega (arith, p.size))
-          ∙ ap (λ (l : List ℕ). l ++ (x ∷ [])) p.is ∙ replicate-append-replicate j 1 x;
+      is = ap (λ (m : ℕ). take m (set reg j x)) (add-one j) ∙ take-suc-set reg j x (omega (arith, p.size)) ∙ ap (λ (l : List ℕ). l ++ (x ∷ [])) p.is ∙ replicate-append-replicate j 1 x;
       some = omega arith;
       size = length-set reg j x ∙ p.size;
     }
@@ -206,12 +200,7 @@ module _ (r : ℕ) (sheet : List ℕ) (n : ℕ) (us : List ℕ) (w c k : ℕ) wh
 
   pub dividing-none : (reg : List ℕ) → reg ≡ replicate r (unit_word c k) → Dividing reg 0
   unfolding remainder
-  dividing-none reg e =
-      record {
-        some = omega arith;
-        size = ap length e ∙ length-replicate r (unit_word c k);
-        left = ap (λ (s : List ℕ). fed_all r s (free_of ks vs)) e;
-      }
+  dividing-none reg e = record { some = omega arith; size = ap length e ∙ length-replicate r (unit_word c k); left = ap (λ (s : List ℕ). fed_all r s (free_of ks vs)) e }
 
   -- where word k of row i is
   pub column-room : (i : ℕ) → length us ≡ n * w → k < w → i < n → i * w + k < length us
@@ -227,8 +216,7 @@ module _ (r : ℕ) (sheet : List ℕ) (n : ℕ) (us : List ℕ) (w c k : ℕ) wh
     dividing-free z reg' q =
         let b = get_or us (i * w + k) 0 in
         let x : reg' ≡ fed r reg b = q ∙ ap (λ (l : ℕ). fed l reg b) p.size in
-        let cut : free_of (drop i ks) (drop i vs) ≡ b ∷ free_of (drop (suc i) ks) (drop (suc i) vs) =
-        rw (rules-at sheet n i h, rule_free sheet i e z, words-at i h) in
+        let cut : free_of (drop i ks) (drop i vs) ≡ b ∷ free_of (drop (suc i) ks) (drop (suc i) vs) = rw (rules-at sheet n i h, rule_free sheet i e z, words-at i h) in
         record {
           some = omega arith;
           size = ap length x ∙ length-fed r reg b;
@@ -237,8 +225,7 @@ module _ (r : ℕ) (sheet : List ℕ) (n : ℕ) (us : List ℕ) (w c k : ℕ) wh
 
     pub dividing-frozen : t ≡ false → Dividing reg (i + 1)
     dividing-frozen z =
-        let cut : free_of (drop i ks) (drop i vs) ≡ free_of (drop (suc i) ks) (drop (suc i) vs) =
-        rw (rules-at sheet n i h, rule_frozen sheet i e z, words-at i h) in
+        let cut : free_of (drop i ks) (drop i vs) ≡ free_of (drop (suc i) ks) (drop (suc i) vs) = rw (rules-at sheet n i h, rule_frozen sheet i e z, words-at i h) in
         record { some = omega arith; size = p.size; left = rw (add-one i) (sym (ap (fed_all r reg) cut) ∙ p.left) }
 
   pub dividing-all : (reg : List ℕ) (i : ℕ) → Dividing reg i → n ≤ i → reg ≡ remainder r sheet n us w c k

@@ -1,19 +1,19 @@
 -- The test of what a caller hands over, in the values that the code has by then.
 --     spaced-..                             each test of the code, and what the definition then says
 --     fits-..                               the whole test
---     CheckLengths, lengths_fit, fits_when  what holds where all fits, and the other way round
+--     Ready, ready                          what holds where all fits
 use mathlib.Core.Path.{◌≡◌, refl, sym, ◌∙◌}
 use Prim.Native.Nat.{ℕ, suc, ◌+◌, ◌-◌, ◌*◌, ◌/◌, ◌%◌, ◌^◌, ◌≤◌, ◌<◌}
 use native.Mathlib.Omega.{arith}
 use native.Mathlib.Nat.{mul-le-mul_right, div-add-mod, mod-lt}
 use mathlib.Core.Bool.{Bool, true, false, not}
 use lib.Dec.{eqb, leb, ltb}
-use borrow.Author.Tests.{ltb-true, leb-true, leb-false, eqb-true, eq-eqb, lt-ltb, le-ltb, le-leb, lt-leb, not-true}
-use Rattle.bits.proofs.Tests.{and_l, and_r, and_i}
-use Rattle.meaning.specs.Limits.{largest_n, record_bytes}
+use borrow.Author.Tests.{ltb-true, leb-true, leb-false, eqb-true, lt-ltb, le-ltb, le-leb, lt-leb, not-true}
+use Rattle.bits.proofs.Tests.{and_l, and_r}
+use Rattle.meaning.specs.Limits.{largest_n}
 use Rattle.meaning.specs.Answers.{checkLength}
 use Rattle.sheet.specs.Shapes.{positions, recorded}
-use Rattle.sheet.proofs.Shapes.{recorded-true, recorded_when, positions-all, check-length-most}
+use Rattle.sheet.proofs.Shapes.{recorded-true, positions-all, check-length-most}
 use Rattle.descent.specs.Descending.{widest}
 use Rattle.checks.specs.Checking.{spaced, check_fits}
 
@@ -69,8 +69,7 @@ module _ (n s r c w u m e : ℕ) {t : Bool} where
   unfolding check_fits
   fits-spaced h k p q = rw (h, k, sym p ∙ not-true t q)
 
-pub fits-rows : (n s r c w u m e size : ℕ) → recorded n s ≡ true → checkLength r ≡ true → spaced r c w m e ≡ true
-    → size ≡ positions n → check_fits n s r c w u m e ≡ eqb u (size * w)
+pub fits-rows : (n s r c w u m e size : ℕ) → recorded n s ≡ true → checkLength r ≡ true → spaced r c w m e ≡ true → size ≡ positions n → check_fits n s r c w u m e ≡ eqb u (size * w)
 unfolding check_fits
 fits-rows n s r c w u m e size h k l q = rw (h, k, l, q, positions-all n (recorded-true n s h).0)
 
@@ -82,7 +81,7 @@ spaced-true r c w m e h =
     let k = and_r (leb w widest) _ h in
     (leb-true w widest (and_l _ _ h), ltb-true c w (and_l _ _ k), leb-true ((m + r) * w) e (and_r (ltb c w) _ k))
 
-pub record CheckLengths (n s r c w u m e : ℕ) : Type 0 where
+pub record Ready (n s r c w u m e : ℕ) : Type 0 where
   pub small : n ≤ largest_n
   pub short : r ≤ 11
   pub narrow : w ≤ widest
@@ -90,9 +89,9 @@ pub record CheckLengths (n s r c w u m e : ℕ) : Type 0 where
   pub room : (m + r) * w ≤ e
   pub rows_u : u ≡ 2 ^ n * w
 
-pub lengths_fit : (n s r c w u m e : ℕ) → check_fits n s r c w u m e ≡ true → CheckLengths n s r c w u m e
+pub ready : (n s r c w u m e : ℕ) → check_fits n s r c w u m e ≡ true → Ready n s r c w u m e
 unfolding check_fits
-lengths_fit n s r c w u m e h =
+ready n s r c w u m e h =
     let k = and_r (recorded n s) _ h in
     let l = and_r (checkLength r) _ k in
     let (a, _) = recorded-true n s (and_l _ _ h) in
@@ -105,11 +104,3 @@ lengths_fit n s r c w u m e h =
       room = z;
       rows_u = eqb-true u (2 ^ n * w) (and_r (spaced r c w m e) _ l);
     }
-
-pub fits_when : (n s r c w u m e : ℕ) → n ≤ largest_n → s ≡ 2 ^ n * record_bytes → checkLength r ≡ true → w ≤ widest → c < w → (m + r) * w ≤ e
-    → u ≡ 2 ^ n * w → check_fits n s r c w u m e ≡ true
-unfolding check_fits spaced
-fits_when n s r c w u m e small records check narrow constant room rows_u =
-    and_i _ _ (recorded_when n s small records)
-    (and_i _ _ check
-    (and_i _ _ (and_i _ _ (le-leb w widest narrow) (and_i _ _ (lt-ltb c w constant) (le-leb ((m + r) * w) e room))) (eq-eqb u (2 ^ n * w) rows_u)))

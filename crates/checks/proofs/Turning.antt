@@ -1,15 +1,15 @@
 -- The ring: a list whose first place is h, turned so that this comes first.
---     slot-near, slot_far, slot_in     where a place is
+--     slot_near, slot_far, slot_in     where a place is
 --     at-turned, length-turned         the words of the ring
 --     turned-plus                      a word added at one place
 --     turned-next                      a word put in for the one that goes out
---     taps_six, taps_eleven, taps_none, taps_zero     the terms of the check polynomial
+--     taps_six, taps_eleven, taps_none     the terms of the check polynomial
 --     fed_ring                         all of a shift
 use mathlib.Core.Path.{◌≡◌, refl, sym, ap, ap₂, ◌∙◌}
 use mathlib.Core.Logic.{◌⊎◌, inl, inr, ⊎_elim}
 use Prim.Native.Nat.{ℕ, suc, ◌+◌, ◌-◌, ◌≤◌, ◌<◌}
 use native.Mathlib.Omega.{arith}
-use mathlib.Core.Bool.{Bool, true, false}
+use mathlib.Core.Bool.{Bool, false}
 use mathlib.Core.List.{List, [], ◌∷◌, ◌++◌, append-nil}
 use lib.ListN.{length, take, drop, get_or, set, length-set, length-append, length-drop, get_or-append}
 use lib.Seq.{get_or-append-add, get_or-drop, get_or-take, get_or_at, get_or-set_same, get_or-set_other, ext_get_or, length-take-le}
@@ -22,21 +22,19 @@ use Rattle.checks.specs.Registers.{slot, turned, plus_at, tapped, fed}
 use Rattle.checks.proofs.Shifting.{no_term, fed-tapped, six_tapped, eleven_tapped}
 
 module _ (r h j : ℕ) where
-  pub slot-near : h + j < r → h + j ≡ slot r h j
+  pub slot_near : h + j < r → h + j ≡ slot r h j
   unfolding slot
-  slot-near p = rw (lt-ltb (h + j) r p) refl
+  slot_near p = rw (lt-ltb (h + j) r p) refl
 
   pub slot_far : r ≤ h + j → h + j - r ≡ slot r h j
   unfolding slot
   slot_far p = rw (le-ltb (h + j) r p) refl
 
   slot_cases : ((h + j < r) × (slot r h j ≡ h + j)) ⊎ ((r ≤ h + j) × (slot r h j ≡ h + j - r))
-  slot_cases = ⊎_elim (λ (p : r ≤ h + j). inr (p, sym (slot_far p))) (λ (p : h + j < r). inl (p, sym (slot-near p))) (le_or_lt r (h + j))
+  slot_cases = ⊎_elim (λ (p : r ≤ h + j). inr (p, sym (slot_far p))) (λ (p : h + j < r). inl (p, sym (slot_near p))) (le_or_lt r (h + j))
 
   pub slot_in : h < r → j ≤ r → slot r h j < r
-  slot_in p q =
-      ⊎_elim (λ (z : (h + j < r) × (slot r h j ≡ h + j)). let e = z.1 in let l = z.0 in omega arith)
-      (λ (z : (r ≤ h + j) × (slot r h j ≡ h + j - r)). let e = z.1 in let l = z.0 in omega arith) slot_cases
+  slot_in p q = ⊎_elim (λ (z : (h + j < r) × (slot r h j ≡ h + j)). let e = z.1 in let l = z.0 in omega arith) (λ (z : (r ≤ h + j) × (slot r h j ≡ h + j - r)). let e = z.1 in let l = z.0 in omega arith) slot_cases
 
 -- two places of a ring are not one
 slot_other : (r h i j : ℕ) → h < r → i < r → j < r → (i ≡ j → ⊥) → slot r h i ≡ slot r h j → ⊥
@@ -55,28 +53,18 @@ slot_next : (r h i : ℕ) → h < r → suc i < r → slot r (slot r h 1) i ≡ 
 slot_next r h i p q =
     ⊎_elim
     (λ (a : (h + 1 < r) × (slot r h 1 ≡ h + 1)). let a₁ = a.1 in let a₀ = a.0 in
-    ⊎_elim
-    (λ (b : (slot r h 1 + i < r) × (slot r (slot r h 1) i ≡ slot r h 1 + i)). let b₁ = b.1 in let b₀ = b.0 in
-    let z : h + 1 + i ≡ h + (1 + i) = omega arith in
-    b₁ ∙ ap (λ (x : ℕ). x + i) a₁ ∙ z ∙ slot-near r h (1 + i) (omega arith))
-    (λ (b : (r ≤ slot r h 1 + i) × (slot r (slot r h 1) i ≡ slot r h 1 + i - r)). let b₁ = b.1 in let b₀ = b.0 in
-    let z : slot r h 1 + i - r ≡ h + (1 + i) - r = omega arith in
-    b₁ ∙ z ∙ slot_far r h (1 + i) (omega arith))
-    (slot_cases r (slot r h 1) i))
+    ⊎_elim (λ (b : (slot r h 1 + i < r) × (slot r (slot r h 1) i ≡ slot r h 1 + i)). let b₁ = b.1 in let b₀ = b.0 in let z : h + 1 + i ≡ h + (1 + i) = omega arith in b₁ ∙ ap (λ (x : ℕ). x + i) a₁ ∙ z ∙ slot_near r h (1 + i) (omega arith))
+    (λ (b : (r ≤ slot r h 1 + i) × (slot r (slot r h 1) i ≡ slot r h 1 + i - r)). let b₁ = b.1 in let b₀ = b.0 in let z : slot r h 1 + i - r ≡ h + (1 + i) - r = omega arith in b₁ ∙ z ∙ slot_far r h (1 + i) (omega arith)) (slot_cases r (slot r h 1) i))
     (λ (a : (r ≤ h + 1) × (slot r h 1 ≡ h + 1 - r)). let a₁ = a.1 in let a₀ = a.0 in
     let z : slot r h 1 + i ≡ h + (1 + i) - r = omega arith in
-    sym (slot-near r (slot r h 1) i (omega arith)) ∙ z ∙ slot_far r h (1 + i) (omega arith))
+    sym (slot_near r (slot r h 1) i (omega arith)) ∙ z ∙ slot_far r h (1 + i) (omega arith))
     (slot_cases r h 1)
 
 slot-last : (r h i : ℕ) → h < r → suc i ≡ r → slot r (slot r h 1) i ≡ h
 slot-last r h i p q =
     ⊎_elim
-    (λ (a : (h + 1 < r) × (slot r h 1 ≡ h + 1)). let a₁ = a.1 in let a₀ = a.0 in
-    let z : slot r h 1 + i - r ≡ h = omega arith in
-    sym (slot_far r (slot r h 1) i (omega arith)) ∙ z)
-    (λ (a : (r ≤ h + 1) × (slot r h 1 ≡ h + 1 - r)). let a₁ = a.1 in let a₀ = a.0 in
-    let z : slot r h 1 + i ≡ h = omega arith in
-    sym (slot-near r (slot r h 1) i (omega arith)) ∙ z)
+    (λ (a : (h + 1 < r) × (slot r h 1 ≡ h + 1)). let a₁ = a.1 in let a₀ = a.0 in let z : slot r h 1 + i - r ≡ h = omega arith in sym (slot_far r (slot r h 1) i (omega arith)) ∙ z)
+    (λ (a : (r ≤ h + 1) × (slot r h 1 ≡ h + 1 - r)). let a₁ = a.1 in let a₀ = a.0 in let z : slot r h 1 + i ≡ h = omega arith in sym (slot_near r (slot r h 1) i (omega arith)) ∙ z)
     (slot_cases r h 1)
 
 -- ---- the words of the ring
@@ -97,8 +85,7 @@ module _ (p : List ℕ) (h : ℕ) (hh : h < length p) where
       (λ (z : (length p ≤ h + j) × (slot (length p) h j ≡ h + j - length p)). let z₀ = z.0 in
       let t : ℕ = h + j - length p in
       let e : j ≡ length (drop h p) + t = omega arith in
-      ap (λ (x : ℕ). get_or (turned p h) x 0) e ∙ get_or-append-add (drop h p) (take h p) t 0 ∙ get_or-take h p t 0 (omega arith)
-      ∙ ap (λ (x : ℕ). get_or p x 0) (sym z.1))
+      ap (λ (x : ℕ). get_or (turned p h) x 0) e ∙ get_or-append-add (drop h p) (take h p) t 0 ∙ get_or-take h p t 0 (omega arith) ∙ ap (λ (x : ℕ). get_or p x 0) (sym z.1))
       (slot_cases (length p) h j)
 
   -- as a word that is read
@@ -109,7 +96,7 @@ module _ (p : List ℕ) (h : ℕ) (hh : h < length p) where
   first-turned =
       let z : h + 0 < length p = omega arith in
       let e : h + 0 ≡ h = omega arith in
-      at-turned 0 (omega arith) ∙ ap (λ (x : ℕ). get_or p x 0) (sym (slot-near (length p) h 0 z) ∙ e)
+      at-turned 0 (omega arith) ∙ ap (λ (x : ℕ). get_or p x 0) (sym (slot_near (length p) h 0 z) ∙ e)
 
 -- a word written at one place
 turned_set : (p : List ℕ) (h j z : ℕ) → h < length p → j < length p → turned (set p (slot (length p) h j) z) h ≡ set (turned p h) j z
@@ -124,17 +111,13 @@ turned_set p h j z a b =
     (λ i l.
     let l₁ = length-turned (set p x z) h a' in
     let i< : i < r = omega arith in
-    let s : get_or (turned (set p x z) h) i 0 ≡ get_or (set p x z) (slot r h i) 0 =
-    at-turned (set p x z) h a' i (omega arith) ∙ ap (λ (m : ℕ). get_or (set p x z) (slot m h i) 0) ls in
+    let s : get_or (turned (set p x z) h) i 0 ≡ get_or (set p x z) (slot r h i) 0 = at-turned (set p x z) h a' i (omega arith) ∙ ap (λ (m : ℕ). get_or (set p x z) (slot m h i) 0) ls in
     ⊎_elim
-    (λ (q : i ≡ j). s ∙ ap (λ (m : ℕ). get_or (set p x z) (slot r h m) 0) q ∙ get_or-set_same p x z 0 x<
-    ∙ sym (ap (λ (m : ℕ). get_or (set (turned p h) j z) m 0) q ∙ get_or-set_same (turned p h) j z 0 (omega arith)))
-    (λ (n : i ≡ j → ⊥). s ∙ get_or-set_other p x (slot r h i) z 0 (slot_other r h i j a i< b n)
-    ∙ sym (get_or-set_other (turned p h) j i z 0 n ∙ at-turned p h a i i<))
+    (λ (q : i ≡ j). s ∙ ap (λ (m : ℕ). get_or (set p x z) (slot r h m) 0) q ∙ get_or-set_same p x z 0 x< ∙ sym (ap (λ (m : ℕ). get_or (set (turned p h) j z) m 0) q ∙ get_or-set_same (turned p h) j z 0 (omega arith)))
+    (λ (n : i ≡ j → ⊥). s ∙ get_or-set_other p x (slot r h i) z 0 (slot_other r h i j a i< b n) ∙ sym (get_or-set_other (turned p h) j i z 0 n ∙ at-turned p h a i i<))
     (eq_or_ne i j))
 
-pub turned-plus : (p : List ℕ) (h j x o : ℕ) → h < length p → j < length p → x ≡ slot (length p) h j
-    → turned (set p x (bit_xor (get_or p x 0) o)) h ≡ plus_at (turned p h) j o
+pub turned-plus : (p : List ℕ) (h j x o : ℕ) → h < length p → j < length p → x ≡ slot (length p) h j → turned (set p x (bit_xor (get_or p x 0) o)) h ≡ plus_at (turned p h) j o
 turned-plus p h j x o a b e =
     ap (λ (y : ℕ). turned (set p y (bit_xor (get_or p y 0) o)) h) e ∙ turned_set p h j (bit_xor (get_or p (slot (length p) h j) 0) o) a b
     ∙ ap (λ (y : ℕ). set (turned p h) j (bit_xor y o)) (sym (at-turned p h a j b))
@@ -167,7 +150,7 @@ turned-next p h b g a e =
     (le_or_lt r (suc i)))
   where
     first : h ≡ slot (length p) h 0
-    first = let z : h ≡ h + 0 = omega arith in z ∙ slot-near (length p) h 0 (omega arith)
+    first = let z : h ≡ h + 0 = omega arith in z ∙ slot_near (length p) h 0 (omega arith)
 
 -- ---- the terms
 
@@ -185,24 +168,13 @@ taps_none r s o l a b =
     let t : get_or (poly r) j false ≡ false = no_term r j a b (omega arith) in
     ap (λ (x : Bool). bit_xor (get_or s j 0) (pick x o 0)) t ∙ xor_zero_r (get_or s j 0)))
 
--- a word 0 changes nothing
-pub taps_zero : (r : ℕ) (s : List ℕ) (o : ℕ) → length s ≡ r → o ≡ 0 → s ≡ tapped r s o
-taps_zero r s o l z =
-    let f : ℕ → ℕ = λ j. bit_xor (get_or s j 0) (pick (get_or (poly r) j false) o 0) in
-    sym (ap (λ (m : ℕ). tab m f) (sym l) ∙ tab-get_or s 0 f (λ j h. ap (bit_xor (get_or s j 0)) (nothing (get_or (poly r) j false)) ∙ xor_zero_r (get_or s j 0)))
-  where
-    nothing : (b : Bool) → pick b o 0 ≡ 0
-    nothing true = z
-    nothing false = refl
-
 -- ---- a shift
 
 pub fed_ring : (p : List ℕ) (h b g : ℕ) (p' : List ℕ) (n : ℕ) → h < length p → g ≡ slot (length p) h 1 → n ≡ length p
     → turned p' g ≡ tapped n (turned (set p h b) g) (get_or p h 0) → turned p' g ≡ fed (length p) (turned p h) b
 fed_ring p h b g p' n a e m q =
     q ∙ ap₂ (λ (k : ℕ) (s : List ℕ). tapped k s (get_or p h 0)) m (turned-next p h b g a e)
-    ∙ ap (tapped (length p) (drop 1 (turned p h) ++ (b ∷ []))) (sym (first-turned p h a))
-    ∙ fed-tapped (length p) (turned p h) b (length-turned p h a) (omega arith)
+    ∙ ap (tapped (length p) (drop 1 (turned p h) ++ (b ∷ []))) (sym (first-turned p h a)) ∙ fed-tapped (length p) (turned p h) b (length-turned p h a) (omega arith)
 
 pub turned_none : (p : List ℕ) → turned p 0 ≡ p
 turned_none p = append-nil p

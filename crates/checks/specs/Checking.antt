@@ -2,7 +2,7 @@
 --     check_fits           whether all that is handed over fits together
 --     Checked, checked    an answer, and what the list of equations holds
 --     check_of             the rows of the check
---     check_appended       the answer and the list after the call
+--     checking            the answer and the list after the call
 use Rattle.std.specs.Prelude.{ℕ, ◌+◌, ◌*◌, ◌^◌, Bool, true, false, ◌&&◌, length, take, drop, eqb, leb, ltb}
 use mathlib.Core.List.{List, ◌++◌, flatten}
 use Rattle.bits.specs.Vectors.{pick}
@@ -37,8 +37,8 @@ abbrev pub check_of : ℕ → List ℕ → ℕ → ℕ → ℕ → List ℕ → 
 check_of n sheet r c w us = checks (row_values c w) r (rules n sheet) (rows w (2 ^ n) us)
 
 -- the check's rows stand behind the first m; what does not fit leaves the list as found
-unfoldable pub check_appended : ℕ → List ℕ → ℕ → ℕ → ℕ → List ℕ → ℕ → List ℕ → Checked
-check_appended n sheet r c w us m eqs =
+unfoldable pub checking : ℕ → List ℕ → ℕ → ℕ → ℕ → List ℕ → ℕ → List ℕ → Checked
+checking n sheet r c w us m eqs =
     pick (check_fits n (length sheet) r c w (length us) m (length eqs))
     (checked true (take (m * w) eqs ++ flatten (check_of n sheet r c w us) ++ drop ((m + r) * w) eqs))
     (checked false eqs)

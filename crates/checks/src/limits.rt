@@ -2,8 +2,6 @@
 ghost use Rattle.std.specs.Prelude.{◌≡◌};
 ghost use Rattle.checks.specs.Checking.{spaced, check_fits};
 
-use bits::rows::Width;
-
 // The longest check.
 pub const LONGEST: usize = 11;
 
@@ -28,8 +26,17 @@ fn spaced(r: usize, c: usize, w: usize, m: usize, eqs: usize) -> bool
 }
 
 // Whether all that a caller hands over fits together.
-pub fn fits(n: usize, sheet: usize, r: usize, width: Width, us: usize, m: usize, eqs: usize) -> bool
-    ensures { result ≡ check_fits n sheet r width.coeffs width.words us m eqs }
+pub fn fits(
+    n: usize,
+    sheet: usize,
+    r: usize,
+    c: usize,
+    w: usize,
+    us: usize,
+    m: usize,
+    eqs: usize,
+) -> bool
+    ensures { result ≡ check_fits n sheet r c w us m eqs }
 {
     if !sheet::recorded(n, sheet) {
         return false;
@@ -37,8 +44,7 @@ pub fn fits(n: usize, sheet: usize, r: usize, width: Width, us: usize, m: usize,
     if !sheet::is_check_length(r) {
         return false;
     }
-    let w = width.words;
-    if !spaced(r, width.coeffs, w, m, eqs) {
+    if !spaced(r, c, w, m, eqs) {
         return false;
     }
     us == sheet::size(n) * w

@@ -4,7 +4,6 @@ ghost use Rattle.std.specs.Prelude.{◌≡◌, ◌+◌, ◌*◌, ◌<◌, ◌≤
 ghost use Rattle.checks.specs.Registers.{unit_word, slot, turned, plus_at, tapped, fed, remainder, Put, ColumnsUpTo};
 
 use super::limits;
-use bits::rows::Width;
 
 // Where place j of the register stands in a ring of r words whose first place is h.
 fn slot(r: usize, h: usize, j: usize) -> usize
@@ -24,14 +23,11 @@ fn add_at(reg: &mut [u64], h: usize, j: usize, o: u64)
     reg[x] = reg[x] ^ o;
 }
 
-// Adds o wherever the check polynomial of the register's length has a term, from D^(r-1) at place 0 on. A word 0 adds nothing.
+// Adds o wherever the check polynomial of the register's length has a term, from D^(r-1) at place 0 on.
 fn add_taps(reg: &mut [u64], h: usize, o: u64)
     requires { (h < length reg.old) × (length reg.old ≤ 11) }
     ensures { turned reg.new h ≡ tapped (length reg.old) (turned reg.old h) o }
 {
-    if o == 0 {
-        return;
-    }
     let r = reg.len();
     if r == 6 {
         add_at(reg, h, 0, o);
@@ -78,18 +74,25 @@ fn start(reg: &mut [u64], x: u64)
 
 // Feeds word k of each free row of `us`. The register starts from the check's leading ones, word k of the constant's row each.
 // Where its first place is then.
-fn divide(reg: &mut [u64], sheet: &[u8], size: usize, us: &[u64], width: Width, k: usize) -> usize
+fn divide(
+    reg: &mut [u64],
+    sheet: &[u8],
+    size: usize,
+    us: &[u64],
+    w: usize,
+    c: usize,
+    k: usize,
+) -> usize
     requires reg_nonzero { 0 < length reg.old }
-    requires reg_len_bound { (length reg.old ≤ 11) × (length us.now ≡ size * width.words) × (k < width.words) }
-    ensures { (result < length reg.old) × (turned reg.new result
-        ≡ remainder (length reg.old) sheet.now size us.now width.words width.coeffs k) }
+    requires reg_len_bound { (length reg.old ≤ 11) × (length us.now ≡ size * w) × (k < w) }
+    ensures { (result < length reg.old) × (turned reg.new result ≡ remainder (length reg.old) sheet.now size us.now w c k) }
 {
-    start(reg, unit_word(width.coeffs, k));
+    start(reg, unit_word(c, k));
     let mut h = 0;
     let mut i = 0;
     while i < size {
         if sheet::is_free(sheet, i) {
-            h = feed(reg, h, us[i * width.words + k]);
+            h = feed(reg, h, us[i * w + k]);
         }
         i += 1;
     }
@@ -110,31 +113,35 @@ fn put(out: &mut [u64], w: usize, k: usize, reg: &[u64], h: usize)
 }
 
 // All words of the check's rows, column by column.
-fn columns(reg: &mut [u64], sheet: &[u8], size: usize, us: &[u64], width: Width, out: &mut [u64])
+fn columns(
+    reg: &mut [u64],
+    sheet: &[u8],
+    size: usize,
+    us: &[u64],
+    w: usize,
+    c: usize,
+    out: &mut [u64],
+)
     requires reg_nonzero { 0 < length reg.old }
-    requires reg_len_bound { (length reg.old ≤ 11) × (length us.now ≡ size * width.words) × (length out.old ≡ length reg.old * width.words) }
-    ensures { ColumnsUpTo (length reg.old) width.words
-        (remainder (length reg.old) sheet.now size us.now width.words width.coeffs) width.words
-        out.new }
+    requires reg_len_bound { (length reg.old ≤ 11) × (length us.now ≡ size * w) × (length out.old ≡ length reg.old * w) }
+    ensures { ColumnsUpTo (length reg.old) w (remainder (length reg.old) sheet.now size us.now w c) w out.new }
 {
-    let w = width.words;
     let mut k = 0;
     while k < w {
-        let h = divide(reg, sheet, size, us, width, k);
+        let h = divide(reg, sheet, size, us, w, c, k);
         put(out, w, k, reg, h);
         k += 1;
     }
 }
 
 // The same for a check of length r, with a register of its own; nothing where there is no check.
-pub fn write(sheet: &[u8], size: usize, us: &[u64], width: Width, r: usize, out: &mut [u64])
-    requires { (r ≤ 11) × (length us.now ≡ size * width.words) × (length out.old ≡ r * width.words) }
-    ensures { ColumnsUpTo r width.words
-        (remainder r sheet.now size us.now width.words width.coeffs) width.words out.new }
+pub fn write(sheet: &[u8], size: usize, us: &[u64], w: usize, c: usize, r: usize, out: &mut [u64])
+    requires { (r ≤ 11) × (length us.now ≡ size * w) × (length out.old ≡ r * w) }
+    ensures { ColumnsUpTo r w (remainder r sheet.now size us.now w c) w out.new }
 {
     if r == 0 {
         return;
     }
     let mut reg: [u64; limits::LONGEST] = [0; limits::LONGEST];
-    columns(&mut reg[..r], sheet, size, us, width, out);
+    columns(&mut reg[..r], sheet, size, us, w, c, out);
 }

@@ -15,20 +15,18 @@ use Rattle.meaning.specs.Sheet.{Rule, free, frozen, rule_at, rules, frees, early
 use Rattle.meaning.specs.Check.{free_bits, keeps}
 use Rattle.meaning.specs.Codewords.{payload_of}
 use Rattle.meaning.specs.Payload.{encoded}
-use Rattle.meaning.specs.Answers.{isDone, isOne, refuses, fault, sheetRefusals, wordRefusals, callRefusals}
-use Rattle.meaning.specs.Answers.{encodeRefusals, readRefusals, leaving, writing, encoding, readingBack}
+use Rattle.meaning.specs.Answers.{isDone, isOne, refuses, fault, sheetRefusals, wordRefusals, callRefusals, encodeRefusals, readRefusals, leaving, writing, encoding, readingBack}
 use Rattle.meaning.specs.declared.Answer.{Answer}
 use Rattle.meaning.specs.declared.Answer.TheVariants.{Done, Inconsistent}
 use Rattle.meaning.proofs.Refusals.{tried_done, tried_all, none_append}
-use Rattle.meaning.specs.Forms.{Good}
-use Rattle.meaning.proofs.Forms.{good, Worded, worded, bits_back}
+use Rattle.meaning.proofs.Forms.{Good, good, Worded, worded, bits_back}
 use Rattle.meaning.proofs.Polar.{length-polar}
 use Rattle.meaning.proofs.Sound.{length-rules}
 use Rattle.meaning.proofs.Encode.{length-free}
 use Rattle.meaning.proofs.ReadBack.{encode_is, read_is}
 use Rattle.codec.specs.Ready.{AreBits, Encodable, Whole, Legible, Extracted}
 use Rattle.sheet.proofs.Records.{records_in}
-use Rattle.refusals.proofs.Calls.{size_is, count-is, call_same}
+use Rattle.sheet.proofs.Calls.{size_is, count-is, call_same}
 use Rattle.codec.proofs.Sending.{bits_are}
 use Rattle.codec.proofs.Reading.{length_u, rules_u}
 
@@ -39,8 +37,7 @@ frees_le (frozen c m ∷ ks) = omega (arith, frees_le ks)
 
 -- ---- the fault of form, by N and K as the code has them
 
-module _ (n : ℕ) (s : List ℕ) (r : ℕ) (w : List ℕ) (room k : ℕ)
-    (ek : k ≡ frees (tab (length s / record_bytes) (rule_at s))) (m : ℕ) (em : m ≡ k - r) (a : Answer) where
+module _ (n : ℕ) (s : List ℕ) (r : ℕ) (w : List ℕ) (room k : ℕ) (ek : k ≡ frees (tab (length s / record_bytes) (rule_at s))) (m : ℕ) (em : m ≡ k - r) (a : Answer) where
   payload_is : refuses (sheetRefusals n s r) ≡ false → m ≡ frees (rules n s) - r
   payload_is h = em ∙ ap (λ (j : ℕ). j - r) (ek ∙ count-is n s r h)
 
@@ -63,8 +60,7 @@ pub record Accepted (n : ℕ) (s : List ℕ) (r : ℕ) (p out : List ℕ) : Type
   pub fits : length p + r ≤ 2 ^ largest_n
   pub length-is : length s / record_bytes ≡ 2 ^ n
   pub roomy : length s / record_bytes ≤ length out
-  pub sent : (x : List ℕ) (m : ℕ) → m ≡ length x → x ≡ map bit (polar n (encoded (rules n s) r (map isOne p)))
-      → leaving (x ++ drop m out) Done ≡ encoding n s r p out
+  pub sent : (x : List ℕ) (m : ℕ) → m ≡ length x → x ≡ map bit (polar n (encoded (rules n s) r (map isOne p))) → leaving (x ++ drop m out) Done ≡ encoding n s r p out
 
 module _ (n : ℕ) (s : List ℕ) (r : ℕ) (p out : List ℕ) (a : Answer) (ea : a ≡ fault (encodeRefusals n s r p (length out))) (b : Bool) (eb : b ≡ isDone a) where
   told_is : (t : Bool) → b ≡ t → isDone (fault (encodeRefusals n s r p (length out))) ≡ t
@@ -105,8 +101,7 @@ pub record Read (n : ℕ) (s : List ℕ) (r k : ℕ) (w out : List ℕ) : Type 0
   pub long : length w ≡ 2 ^ n
   pub roomy : k - r ≤ length out
   pub legible : (j : ℕ) → j ≡ k → Legible n s r w j
-  pub extracted_reads_back : (out' : List ℕ) (b : Bool) (v : Answer) → Extracted n s r w (k - r) out out' b
-      → v ≡ pick b Done (Inconsistent 0 0) → leaving out' v ≡ readingBack n s r w out
+  pub told : (out' : List ℕ) (b : Bool) (v : Answer) → Extracted n s r w (k - r) out out' b → v ≡ pick b Done (Inconsistent 0 0) → leaving out' v ≡ readingBack n s r w out
 
 module _ (n : ℕ) (s : List ℕ) (r : ℕ) (w out : List ℕ) (a : Answer) (ea : a ≡ fault (readRefusals n s r w (length out))) (b : Bool) (eb : b ≡ isDone a) where
   read_told : (t : Bool) → b ≡ t → isDone (fault (readRefusals n s r w (length out))) ≡ t
@@ -143,8 +138,7 @@ module _ (n : ℕ) (s : List ℕ) (r : ℕ) (w out : List ℕ) (a : Answer) (ea 
     length-us : length us ≡ 2 ^ n
     length-us = length-polar n (map isOne w) (length-map w isOne ∙ word_long)
 
-    answer : readingBack n s r w out ≡ pick (keeps (rules n s) r us)
-        (writing (map bit (payload_of n (rules n s) r (map isOne w))) out Done) (leaving out (Inconsistent 0 0))
+    answer : readingBack n s r w out ≡ pick (keeps (rules n s) r us) (writing (map bit (payload_of n (rules n s) r (map isOne w))) out Done) (leaving out (Inconsistent 0 0))
     answer = read_is n s r w out none
 
     whole : (j : ℕ) → j ≡ k → (u : List ℕ) → u ≡ map bit us → Whole s r u j
@@ -172,10 +166,8 @@ module _ (n : ℕ) (s : List ℕ) (r : ℕ) (w out : List ℕ) (a : Answer) (ea 
     unfolding payload_of
     replied out' true x =
         let lp = length_payload in
-        let ep : map bit (take (k - r) (free_bits (rules n s) us)) ≡ map bit (payload_of n (rules n s) r (map isOne w)) =
-        ap (λ (m : ℕ). map bit (take (m - r) (free_bits (rules n s) us))) count in
-        ap (λ (l : List ℕ). leaving l Done) (x.leaves ∙ ap₂ {C = List ℕ} (λ (a : List ℕ) (m : ℕ). a ++ drop m out) ep (sym lp))
-        ∙ sym (answer ∙ rw (sym x.tells))
+        let ep : map bit (take (k - r) (free_bits (rules n s) us)) ≡ map bit (payload_of n (rules n s) r (map isOne w)) = ap (λ (m : ℕ). map bit (take (m - r) (free_bits (rules n s) us))) count in
+        ap (λ (l : List ℕ). leaving l Done) (x.leaves ∙ ap₂ {C = List ℕ} (λ (a : List ℕ) (m : ℕ). a ++ drop m out) ep (sym lp)) ∙ sym (answer ∙ rw (sym x.tells))
     replied out' false x = ap (λ (l : List ℕ). leaving l (Inconsistent 0 0)) x.leaves ∙ sym (answer ∙ rw (sym x.tells))
 
     pub reads : Read n s r k w out
@@ -187,5 +179,5 @@ module _ (n : ℕ) (s : List ℕ) (r : ℕ) (w out : List ℕ) (a : Answer) (ea 
           long = word_long;
           roomy = omega (arith, count, word.roomy);
           legible = λ j ej. record { bits = bits_back w word.symbols; long = word_long; behind = whole j ej };
-          extracted_reads_back = λ out' t v x e. ap (leaving out') e ∙ replied out' t x;
+          told = λ out' t v x e. ap (leaving out') e ∙ replied out' t x;
         }

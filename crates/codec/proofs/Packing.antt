@@ -60,18 +60,14 @@ own_bits v k =
 
 module _ (f : ℕ → Bool) (v : List ℕ) (k : ℕ) where
   -- one word more: a has the bits that f names there
-  pub word_more : (a : ℕ) → get_or v k 0 < 2 ^ 64 → word_bits 64 a ≡ tab 64 (λ (t : ℕ). f (64 * k + t))
-      → bit_xor (bit (odd_first f v k)) (parity_of a (get_or v k 0)) ≡ bit (odd_first f v (k + 1))
+  pub word_more : (a : ℕ) → get_or v k 0 < 2 ^ 64 → word_bits 64 a ≡ tab 64 (λ (t : ℕ). f (64 * k + t)) → bit_xor (bit (odd_first f v k)) (parity_of a (get_or v k 0)) ≡ bit (odd_first f v (k + 1))
   word_more a hx e =
       let x : ℕ = get_or v k 0 in
       let n : 64 * (k + 1) ≡ 64 * k + 64 = omega arith in
       let m : tab (64 * (k + 1)) f ≡ tab (64 * k) f ++ word_bits 64 a = rw n (tab_append (64 * k) 64 f ∙ ap (λ (t : List Bool). tab (64 * k) f ++ t) (sym e)) in
-      let u : tab (64 * (k + 1)) (value_at v) ≡ tab (64 * k) (value_at v) ++ word_bits 64 x =
-      rw n (tab_append (64 * k) 64 (value_at v) ∙ ap (λ (t : List Bool). tab (64 * k) (value_at v) ++ t) (own_bits v k)) in
+      let u : tab (64 * (k + 1)) (value_at v) ≡ tab (64 * k) (value_at v) ++ word_bits 64 x = rw n (tab_append (64 * k) 64 (value_at v) ∙ ap (λ (t : List Bool). tab (64 * k) (value_at v) ++ t) (own_bits v k)) in
       ap (bit_xor (bit (odd_first f v k))) (parity-bits 64 a x hx) ∙ xor_bit (odd_first f v k) (odd (word_bits 64 a) (word_bits 64 x))
-      ∙ ap bit (sym (ap₂ odd m u
-      ∙ odd_append (tab (64 * k) f) (word_bits 64 a) (tab (64 * k) (value_at v)) (word_bits 64 x)
-      (length-tab (64 * k) f ∙ sym (length-tab (64 * k) (value_at v)))))
+      ∙ ap bit (sym (ap₂ odd m u ∙ odd_append (tab (64 * k) f) (word_bits 64 a) (tab (64 * k) (value_at v)) (word_bits 64 x) (length-tab (64 * k) f ∙ sym (length-tab (64 * k) (value_at v)))))
 
 -- all words of a mask
 whole-mask : 64 * mask_words ≡ 8 * mask_bytes
@@ -124,9 +120,7 @@ holds-none k j = go (dec_lt j (64 * k))
     lv = length-replicate k 0
 
     go : Dec (j < 64 * k) → get_or (held (replicate k 0)) j false ≡ false
-    go (yes h) =
-        held_at (replicate k 0) j (omega (arith, lv)) ∙ ap (λ (x : ℕ). has_bit x (j % 64)) (get_or-replicate {A = ℕ} k (j / 64) 0 0 (omega arith))
-        ∙ zero_bit (j % 64)
+    go (yes h) = held_at (replicate k 0) j (omega (arith, lv)) ∙ ap (λ (x : ℕ). has_bit x (j % 64)) (get_or-replicate {A = ℕ} k (j / 64) 0 0 (omega arith)) ∙ zero_bit (j % 64)
     go (no h) = past (held (replicate k 0)) j (omega (arith, held-length (replicate k 0), lv))
 
 -- ---- one value more
@@ -155,8 +149,7 @@ module _ (v : List ℕ) (c : List Bool) (b : Bool) (i : ℕ) (e : i ≡ length c
 
   -- bit j of the word of i
   here : (j : ℕ) → j / 64 ≡ i / 64 → value_at new j ≡ value_at v j ⊕ (eqb (j % 64) (i % 64) && b)
-  here j d =
-      rw (d, get_or-set_same v (i / 64) (bit_xor (get_or v (i / 64) 0) (bit b * 2 ^ (i % 64))) 0 (omega arith)) (put-bit (get_or v (i / 64) 0) (i % 64) (j % 64) b)
+  here j d = rw (d, get_or-set_same v (i / 64) (bit_xor (get_or v (i / 64) 0) (bit b * 2 ^ (i % 64))) 0 (omega arith)) (put-bit (get_or v (i / 64) 0) (i % 64) (j % 64) b)
 
   -- i's, which was 0, is b
   own : value_at new i ≡ b
@@ -178,6 +171,4 @@ module _ (v : List ℕ) (c : List Bool) (b : Bool) (i : ℕ) (e : i ≡ length c
       go : Dec (j < 64 * length v) → Dec (j ≡ i) → get_or (held new) j false ≡ get_or (c ++ (b ∷ [])) j false
       go (yes l) (yes p) = held_at new j (rw (put-length v i (bit b)) l) ∙ rw p (own ∙ sym (rw e (get_or-append_seam c b [] false)))
       go (yes l) (no n) = held_at new j (rw (put-length v i (bit b)) l) ∙ other j n ∙ sym (held_at v j l) ∙ f j ∙ sym (snoc_other c b j (λ p. n (p ∙ sym e)))
-      go (no l) d =
-          past (held new) j (omega (arith, held-length new, put-length v i (bit b)))
-          ∙ sym (past (c ++ (b ∷ [])) j (omega (arith, length-append c (b ∷ []), e)))
+      go (no l) d = past (held new) j (omega (arith, held-length new, put-length v i (bit b))) ∙ sym (past (c ++ (b ∷ [])) j (omega (arith, length-append c (b ∷ []), e)))

@@ -28,13 +28,13 @@ use Rattle.codec.proofs.Packing.{holds-none, put-length, holds_more, odd-held}
 
 -- ---- bytes that are bits
 
-get_or-map_default : {A B : Type 0} (f : A → B) (l : List A) (i : ℕ) (a : A) → get_or (map f l) i (f a) ≡ f (get_or l i a)
-get_or-map_default f [] i a = refl
-get_or-map_default f (x ∷ l) zero a = refl
-get_or-map_default f (x ∷ l) (suc i) a = get_or-map_default f l i a
+get_or_map : {A B : Type 0} (f : A → B) (l : List A) (i : ℕ) (a : A) → get_or (map f l) i (f a) ≡ f (get_or l i a)
+get_or_map f [] i a = refl
+get_or_map f (x ∷ l) zero a = refl
+get_or_map f (x ∷ l) (suc i) a = get_or_map f l i a
 
 is-bit : (l : List ℕ) (i : ℕ) → AreBits l → i < length l → get_or l i 0 ≡ bit (isOne (get_or l i 0))
-is-bit l i a h = ap (λ (m : List ℕ). get_or m i 0) (sym a) ∙ get_or-map_default bit (map isOne l) i false ∙ ap bit (get_or-map_default isOne l i 0)
+is-bit l i a h = ap (λ (m : List ℕ). get_or m i 0) (sym a) ∙ get_or_map bit (map isOne l) i false ∙ ap bit (get_or_map isOne l i 0)
 
 module _ (s : List ℕ) (size : ℕ) where
   abbrev ks : List Rule
@@ -71,15 +71,13 @@ module _ (s : List ℕ) (size : ℕ) where
       length_c = length-map (take i u) isOne ∙ simp length-take (omega (arith, p.long))
 
       -- the value x of a bit b at position i, with what is left
-      goes : size ≤ 8 * mask_bytes → (x : ℕ) (b : Bool) (next' : ℕ) → x ≡ bit b
-          → place (drop i ks) c (drop next f) ≡ b ∷ place (drop (suc i) ks) (c ++ (b ∷ [])) (drop next' f)
+      goes : size ≤ 8 * mask_bytes → (x : ℕ) (b : Bool) (next' : ℕ) → x ≡ bit b → place (drop i ks) c (drop next f) ≡ b ∷ place (drop (suc i) ks) (c ++ (b ∷ [])) (drop next' f)
           → next' + frees (drop (suc i) ks) ≡ length f → Placing (set u i x) (put v i x) next' (i + 1)
       unfolding mask_bytes
       goes small x b next' ex el er =
           let hu : i < length u = omega (arith, p.long) in
           let t : take (i + 1) (set u i x) ≡ take i u ++ (x ∷ []) = rw (add-one i) (take-suc-set u i x hu) in
-          let cb : map isOne (take (i + 1) (set u i x)) ≡ c ++ (b ∷ []) =
-          ap (map isOne) t ∙ map-append isOne (take i u) (x ∷ []) ∙ ap (λ (y : Bool). c ++ (y ∷ [])) (ap isOne ex ∙ one_bit b) in
+          let cb : map isOne (take (i + 1) (set u i x)) ≡ c ++ (b ∷ []) = ap (map isOne) t ∙ map-append isOne (take i u) (x ∷ []) ∙ ap (λ (y : Bool). c ++ (y ∷ [])) (ap isOne ex ∙ one_bit b) in
           record {
             low = omega arith;
             long = length-set u i x ∙ p.long;
@@ -87,9 +85,7 @@ module _ (s : List ℕ) (size : ℕ) where
             bits = ap (map bit) cb ∙ map-append bit c (b ∷ []) ∙ ap₂ {C = List ℕ} (λ (l : List ℕ) (y : ℕ). l ++ (y ∷ [])) p.bits (sym ex) ∙ sym t;
             holds = rw (cb, ex) (holds_more v c b i (sym length_c) (omega (arith, p.wide)) p.holds);
             room = rw (add-one i) er;
-            left =
-                rw (cb, add-one i) (append_assoc c (b ∷ []) (place (drop (suc i) ks) (c ++ (b ∷ [])) (drop next' f))
-                ∙ ap (λ (l : List Bool). c ++ l) (sym el) ∙ p.left);
+            left = rw (cb, add-one i) (append_assoc c (b ∷ []) (place (drop (suc i) ks) (c ++ (b ∷ [])) (drop next' f)) ∙ ap (λ (l : List Bool). c ++ l) (sym el) ∙ p.left);
           }
         where
           one_bit : (b : Bool) → isOne (bit b) ≡ b
@@ -99,16 +95,14 @@ module _ (s : List ℕ) (size : ℕ) where
       pub free-room : eqb (byte s i 0) 0 ≡ true → next < length f
       free-room e = omega (arith, p.room, frees-free s size i h refl e)
 
-      pub free_goes : size ≤ 8 * mask_bytes → eqb (byte s i 0) 0 ≡ true → (x : ℕ)
-          → x ≡ bit (get_or f next false) → Placing (set u i x) (put v i x) (next + 1) (i + 1)
+      pub free_goes : size ≤ 8 * mask_bytes → eqb (byte s i 0) 0 ≡ true → (x : ℕ) → x ≡ bit (get_or f next false) → Placing (set u i x) (put v i x) (next + 1) (i + 1)
       unfolding place
       free_goes small e x ex =
           goes small x (get_or f next false) (next + 1) ex
           (rw (rules-at s size i h, rule_free s i refl e, drop-cons f next false (free-room e), add-one next))
           (omega (arith, p.room, frees-free s size i h refl e))
 
-      pub frozen_goes : size ≤ 8 * mask_bytes → eqb (byte s i 0) 0 ≡ false → (x : ℕ)
-          → x ≡ bit (eqb (byte s i 1) 1 ⊕ odd (mask s i) (held v)) → Placing (set u i x) (put v i x) next (i + 1)
+      pub frozen_goes : size ≤ 8 * mask_bytes → eqb (byte s i 0) 0 ≡ false → (x : ℕ) → x ≡ bit (eqb (byte s i 1) 1 ⊕ odd (mask s i) (held v)) → Placing (set u i x) (put v i x) next (i + 1)
       unfolding place
       frozen_goes small e x ex =
           let o : odd (mask s i) (held v) ≡ odd (mask s i) c = odd-held (mask s i) v c p.holds in
@@ -120,9 +114,7 @@ module _ (s : List ℕ) (size : ℕ) where
     unfolding place
     placed u v next i h p =
         let t : take i u ≡ u = take_all i u (omega (arith, p.long)) in
-        sym (p.bits ∙ t) ∙ ap (map bit) (sym (append-nil (map isOne (take i u)))
-        ∙ ap (λ (l : List Rule). map isOne (take i u) ++ place l (map isOne (take i u)) (drop next f))
-        (sym (drop_of_length-le ks {i = i} (omega (arith, length-tab size (rule_at s))))) ∙ p.left)
+        sym (p.bits ∙ t) ∙ ap (map bit) (sym (append-nil (map isOne (take i u))) ∙ ap (λ (l : List Rule). map isOne (take i u) ++ place l (map isOne (take i u)) (drop next f)) (sym (drop_of_length-le ks {i = i} (omega (arith, length-tab size (rule_at s))))) ∙ p.left)
 
   -- ---- the free bits of a vector
 
@@ -137,7 +129,7 @@ module _ (s : List ℕ) (size : ℕ) where
 
     module _ (lu : length u ≡ size) (au : AreBits u) (fr : List ℕ) (next i : ℕ) (h : i < size) (p : Taking fr next i) where
       values_at : drop i us ≡ isOne (get_or u i 0) ∷ drop (suc i) us
-      values_at = drop-cons us i false (omega (arith, length-map u isOne)) ∙ ap {B = List Bool} (λ b. b ∷ drop (suc i) us) (get_or-map_default isOne u i 0)
+      values_at = drop-cons us i false (omega (arith, length-map u isOne)) ∙ ap {B = List Bool} (λ b. b ∷ drop (suc i) us) (get_or_map isOne u i 0)
 
       pub take-room : eqb (byte s i 0) 0 ≡ true → next < length fr
       take-room e = omega (arith, p.room, frees-free s size i h refl e)
@@ -146,22 +138,18 @@ module _ (s : List ℕ) (size : ℕ) where
       free_taken e =
           let x : ℕ = get_or u i 0 in
           let hn : next < length fr = take-room e in
-          let cut : free_bits (drop i ks) (drop i us) ≡ isOne x ∷ free_bits (drop (suc i) ks) (drop (suc i) us) =
-          rw (rules-at s size i h, rule_free s i refl e, values_at) in
+          let cut : free_bits (drop i ks) (drop i us) ≡ isOne x ∷ free_bits (drop (suc i) ks) (drop (suc i) us) = rw (rules-at s size i h, rule_free s i refl e, values_at) in
           record {
             low = omega arith;
             room = rw (add-one i) (omega (arith, p.room, frees-free s size i h refl e, length-set fr next x));
             left =
                 rw (add-one i, add-one next, take-suc-set fr next x)
-                (append_assoc (take next fr) (x ∷ []) _ ∙ ap (λ (l : List ℕ). take next fr ++ l)
-                (ap {B = List ℕ} (λ y. y ∷ map bit (free_bits (drop (suc i) ks) (drop (suc i) us))) (is-bit u i au (omega arith))
-                ∙ ap (map bit) (sym cut)) ∙ p.left);
+                (append_assoc (take next fr) (x ∷ []) _ ∙ ap (λ (l : List ℕ). take next fr ++ l) (ap {B = List ℕ} (λ y. y ∷ map bit (free_bits (drop (suc i) ks) (drop (suc i) us))) (is-bit u i au (omega arith)) ∙ ap (map bit) (sym cut)) ∙ p.left);
           }
 
       pub frozen_passed : eqb (byte s i 0) 0 ≡ false → Taking fr next (i + 1)
       frozen_passed e =
-          let cut : free_bits (drop i ks) (drop i us) ≡ free_bits (drop (suc i) ks) (drop (suc i) us) =
-          rw (rules-at s size i h, rule_frozen s i refl e, values_at) in
+          let cut : free_bits (drop i ks) (drop i us) ≡ free_bits (drop (suc i) ks) (drop (suc i) us) = rw (rules-at s size i h, rule_frozen s i refl e, values_at) in
           record {
             low = omega arith;
             room = rw (add-one i) (omega (arith, p.room, frees-frozen s size i h refl e));
@@ -172,14 +160,13 @@ module _ (s : List ℕ) (size : ℕ) where
     taken fr next i h p =
         let none : drop i ks ≡ [] = drop_of_length-le ks {i = i} (omega (arith, length-tab size (rule_at s))) in
         let full : length fr ≤ next = omega (arith, p.room, ap frees none) in
-        sym (take_all next fr full) ∙ sym (append-nil (take next fr))
-        ∙ ap (λ (l : List Rule). take next fr ++ map bit (free_bits l (drop i us))) (sym none) ∙ p.left
+        sym (take_all next fr full) ∙ sym (append-nil (take next fr)) ∙ ap (λ (l : List Rule). take next fr ++ map bit (free_bits l (drop i us))) (sym none) ∙ p.left
 
 -- ---- the bits that are put in
 
 -- a free bit handed in
 pub free-bit : (l : List ℕ) (k : ℕ) → AreBits l → k < length (map isOne l) → get_or l k 0 ≡ bit (get_or (map isOne l) k false)
-free-bit l k a h = is-bit l k a (omega (arith, length-map l isOne)) ∙ ap bit (sym (get_or-map_default isOne l k 0))
+free-bit l k a h = is-bit l k a (omega (arith, length-map l isOne)) ∙ ap bit (sym (get_or_map isOne l k 0))
 
 pub small : (x : ℕ) (b : Bool) → x ≡ bit b → x < 2
 small x b e = omega (arith, bit-small b)

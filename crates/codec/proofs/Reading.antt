@@ -35,8 +35,7 @@ take-map {B = B} f (suc i) (x ∷ l) = ap {B = List B} (λ t. f x ∷ t) (take-m
 
 -- ---- the vector behind a word
 
-pub unsent : (n : ℕ) (w u l z : List ℕ) → AreBits w → length w ≡ 2 ^ n → length u ≡ 2 ^ n
-    → l ≡ take (length w) w ++ drop (length w) u → z ≡ transformed n l → z ≡ map bit (polar n (map isOne w))
+pub unsent : (n : ℕ) (w u l z : List ℕ) → AreBits w → length w ≡ 2 ^ n → length u ≡ 2 ^ n → l ≡ take (length w) w ++ drop (length w) u → z ≡ transformed n l → z ≡ map bit (polar n (map isOne w))
 unsent n w u l z a lw lu el ez =
     let e : l ≡ w = el ∙ ap₂ {C = List ℕ} ◌++◌ (take_all (length w) w (omega arith)) (drop_of_length-le u {i = length w} (omega arith)) ∙ append-nil w in
     let lo : length (map isOne w) ≡ 2 ^ n = length-map w isOne ∙ lw in
@@ -66,8 +65,7 @@ module _ (n : ℕ) (s : List ℕ) (w u : List ℕ) (lw : length w ≡ 2 ^ n) (e 
     something t f out' ef lm eo =
         let fb : List Bool = free_bits (rules n s) (polar n (map isOne w)) in
         let lf : length (take m f) ≡ m = simp length-take (omega arith) in
-        let es : take m f ≡ map bit (take m fb) =
-        ap (take m) (ef ∙ ap₂ (λ (l : List Rule) (x : List Bool). map bit (free_bits l x)) rules_u back) ∙ take-map bit m fb in
+        let es : take m f ≡ map bit (take m fb) = ap (take m) (ef ∙ ap₂ (λ (l : List Rule) (x : List Bool). map bit (free_bits l x)) rules_u back) ∙ take-map bit m fb in
         record {
           tells = tells;
           leaves = rw t (eo ∙ ap₂ {C = List ℕ} (λ (x : List ℕ) (j : ℕ). x ++ drop j out) (take_all (length (take m f)) (take m f) (omega arith) ∙ es) lf);
@@ -114,8 +112,7 @@ module _ (s : List ℕ) (r : ℕ) (u : List ℕ) (k : ℕ) (ok : Whole s r u k) 
       unfolding keeps
       held e d ed =
           let same : us ≡ place ks [] (free_bits ks us) = ap (map isOne) (tell.yes e ∙ again) ∙ ones_back (place ks [] (free_bits ks us)) in
-          let kept : keeps_rules ks us us ≡ true =
-          subst (λ (x : List Bool). keeps_rules ks x x ≡ true) (sym same) (keeps-place ks [] (free_bits ks us) ok.ordered) in
+          let kept : keeps_rules ks us us ≡ true = subst (λ (x : List Bool). keeps_rules ks x x ≡ true) (sym same) (keeps-place ks [] (free_bits ks us) ok.ordered) in
           rw kept (ed ∙ dividing-is r f (known-listed r ok.check) ∙ ap (λ (x : List Bool). divides r (leads r ++ x)) frees_back)
 
 -- ---- the comparison, with a part l of the room as long as u
@@ -129,11 +126,9 @@ module _ (s f u l : List ℕ) (el : length l ≡ length u) where
   pub within : (x v : List ℕ) → length x ≡ length l → length u ≤ length (x ++ v)
   within x v lx = omega (arith, length-append x v, el, lx)
 
-  pub compared : (x v : List ℕ) → length x ≡ length l → x ≡ map bit (place (tab (length l) (rule_at s)) [] (map isOne f))
-      → (b : Bool) → (b ≡ true → u ≡ take (length u - 0) (x ++ v)) → (u ≡ take (length u - 0) (x ++ v) → b ≡ true)
+  pub compared : (x v : List ℕ) → length x ≡ length l → x ≡ map bit (place (tab (length l) (rule_at s)) [] (map isOne f)) → (b : Bool) → (b ≡ true → u ≡ take (length u - 0) (x ++ v)) → (u ≡ take (length u - 0) (x ++ v) → b ≡ true)
       → Tells b (u ≡ map bit (place (tab (length u) (rule_at s)) [] (map isOne f)))
   compared x v lx ex b p q =
       let lu : length u - 0 ≡ length x = omega (arith, el, lx) in
-      let e : take (length u - 0) (x ++ v) ≡ map bit (place (tab (length u) (rule_at s)) [] (map isOne f)) =
-      rw lu (take-append_seam x v) ∙ ex ∙ ap (λ (m : ℕ). map bit (place (tab m (rule_at s)) [] (map isOne f))) el in
+      let e : take (length u - 0) (x ++ v) ≡ map bit (place (tab (length u) (rule_at s)) [] (map isOne f)) = rw lu (take-append_seam x v) ∙ ex ∙ ap (λ (m : ℕ). map bit (place (tab m (rule_at s)) [] (map isOne f))) el in
       record { yes = λ t. p t ∙ e; no = λ h. q (h ∙ sym e) }

@@ -22,7 +22,7 @@ use Rattle.meaning.proofs.ReadBack.{ones_back}
 use Rattle.polar.specs.Bytes.{transformed}
 use Rattle.polar.proofs.Transforming.{transformed-is, polar-bytes}
 use Rattle.division.specs.Division.{appending}
-use Rattle.division.proofs.Checking.{division_fits-is, appending-is}
+use Rattle.division.proofs.Checking.{fitting-is, appending-is}
 use Rattle.codec.specs.Ready.{AreBits, Encodable}
 
 -- ---- the vector that the rules give, and its transform
@@ -39,8 +39,7 @@ module _ (n : ℕ) (s : List ℕ) (r : ℕ) (p : List ℕ) (k : ℕ) (ok : Encod
   pub checked : (f₀ f : List ℕ) → length f₀ ≡ k → f ≡ appending r p f₀ → f ≡ map bit (map isOne p ++ remainder (poly r) (leads r ++ map isOne p))
   checked f₀ f l e =
       let c : List Bool = remainder (poly r) (leads r ++ map isOne p) in
-      e ∙ appending-is r p f₀ (division_fits-is (length p) r (length f₀) ok.check (l ∙ ok.sum))
-      ∙ ap (λ (q : List ℕ). q ++ map bit c) (sym ok.bits) ∙ sym (map-append bit (map isOne p) c)
+      e ∙ appending-is r p f₀ (fitting-is (length p) r (length f₀) ok.check (l ∙ ok.sum)) ∙ ap (λ (q : List ℕ). q ++ map bit c) (sym ok.bits) ∙ sym (map-append bit (map isOne p) c)
 
   module _ (x f : List ℕ) (lx : length x ≡ 2 ^ n) (lf : length f ≡ k) (e : f ≡ map bit (map isOne p ++ remainder (poly r) (leads r ++ map isOne p))) where
     pub place_ready : ((length s ≡ length x * record_bytes) × (length x ≤ 8 * mask_bytes)) × (AreBits f × (length f ≡ frees (tab (length x) (rule_at s))))
@@ -53,8 +52,7 @@ module _ (n : ℕ) (s : List ℕ) (r : ℕ) (p : List ℕ) (k : ℕ) (ok : Encod
       ),
     )
 
-    pub sent : (y z : List ℕ) → y ≡ map bit (place (tab (length x) (rule_at s)) [] (map isOne f))
-        → z ≡ transformed n y → z ≡ map bit (polar n (encoded (rules n s) r (map isOne p)))
+    pub sent : (y z : List ℕ) → y ≡ map bit (place (tab (length x) (rule_at s)) [] (map isOne f)) → z ≡ transformed n y → z ≡ map bit (polar n (encoded (rules n s) r (map isOne p)))
     unfolding encoded rules
     sent y z ey ez =
         let b : List Bool = map isOne p ++ remainder (poly r) (leads r ++ map isOne p) in

@@ -38,7 +38,7 @@ fn encode_fault(n: usize, sheet: &[u8], r: usize, payload: &[u8], room: usize) -
 {
     let size = sheet.len() / limits::RECORD;
     let m = payload_length(sheet::count_free(sheet), r);
-    refusals::check_call(n, sheet, r, payload, m, 1, room, size)
+    sheet::check_call(n, sheet, r, payload, m, 1, room, size)
 }
 
 // `encode`, with room for the free bits.
@@ -64,7 +64,7 @@ fn encode_in(
 }
 
 // Writes the codeword of a payload: K - r bytes of 0 or 1, K the number of free positions of the sheet.
-// Answers Done and writes N symbols, later bytes as found; or refuses (as refusals::check_sheet; 14: the payload is not
+// Answers Done and writes N symbols, later bytes as found; or refuses (as sheet::check_sheet; 14: the payload is not
 // K - r long; 15: the first payload bit above 1; 16: the output is shorter than N) and leaves the output as found.
 pub fn encode(n: usize, sheet: &[u8], r: usize, payload: &[u8], out: &mut [u8]) -> Answer
     ensures { reply out.new result ≡ encoding n sheet.now r payload.now out.old }
@@ -85,8 +85,7 @@ fn vector_behind(n: usize, word: &[u8], u: &mut [u8])
 // Whether u keeps every frozen rule and the check; takes its free bits out on the way.
 fn lawful(sheet: &[u8], r: usize, u: &[u8], free: &mut [u8]) -> bool
     requires { Whole sheet.now r u.now (length free.old) }
-    ensures { (result ≡ keeps (tab (length u.now) (rule_at sheet.now)) r (map isOne u.now))
-        × (free.new ≡ map bit (free_bits (tab (length u.now) (rule_at sheet.now)) (map isOne u.now))) }
+    ensures { (result ≡ keeps (tab (length u.now) (rule_at sheet.now)) r (map isOne u.now)) × (free.new ≡ map bit (free_bits (tab (length u.now) (rule_at sheet.now)) (map isOne u.now))) }
 {
     rules::take_free(sheet, u, free);
     if !rules::ruled(sheet, free, u) {
@@ -124,7 +123,7 @@ fn read_fault(n: usize, sheet: &[u8], r: usize, word: &[u8], room: usize) -> Ans
 {
     let size = sheet.len() / limits::RECORD;
     let m = payload_length(sheet::count_free(sheet), r);
-    refusals::check_call(n, sheet, r, word, size, 1, room, m)
+    sheet::check_call(n, sheet, r, word, size, 1, room, m)
 }
 
 // What read-back answers where nothing is refused: whether the word is a codeword.
@@ -172,7 +171,7 @@ fn read_in(
 
 // Reads the payload back from a whole codeword: N bytes of 0 or 1.
 // Answers Done and writes the K - r payload bits, later bytes as found; Inconsistent (2) where the word is no codeword; or
-// refuses (as refusals::check_sheet; 14: the word is not N long; 15: the first symbol above 1; 16: the output is shorter
+// refuses (as sheet::check_sheet; 14: the word is not N long; 15: the first symbol above 1; 16: the output is shorter
 // than K - r). All but Done leave the output as found.
 pub fn read_back(n: usize, sheet: &[u8], r: usize, word: &[u8], out: &mut [u8]) -> Answer
     ensures { reply out.new result ≡ readingBack n sheet.now r word.now out.old }

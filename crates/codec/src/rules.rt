@@ -98,8 +98,7 @@ pub fn take_free(sheet: &[u8], u: &[u8], free: &mut [u8])
 pub fn ruled(sheet: &[u8], free: &[u8], u: &[u8]) -> bool
     requires sheet_len { (length sheet.now ≡ length u.now * record_bytes) × (length u.now ≤ 8 * mask_bytes) }
     requires are_bits { AreBits free.now × (length free.now ≡ frees (tab (length u.now) (rule_at sheet.now))) }
-    ensures { Tells result
-        (u.now ≡ map bit (place (tab (length u.now) (rule_at sheet.now)) [] (map isOne free.now))) }
+    ensures { Tells result (u.now ≡ map bit (place (tab (length u.now) (rule_at sheet.now)) [] (map isOne free.now))) }
 {
     let mut v = [0u8; limits::POSITIONS];
     let size = u.len();

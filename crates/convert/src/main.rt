@@ -28,7 +28,7 @@ fn say_place(place: usize) {
 fn refuse(old: &[u8], code: usize, place: usize) {
     if code == 12 {
         say_place(place);
-    } else if sheet::n_of(old) <= limits::LARGEST_N {
+    } else if stream::n_of(old) <= limits::LARGEST_N {
         say(b"convert: 11, the sheet has records of 68 bytes already, and needs no converting\n");
     } else {
         say(b"convert: 11, the sheet is not 20 N bytes long for an N of 1, 2, 4, .. 128\n");

@@ -3,7 +3,7 @@
 --     spread_swapped, spread_kept            two slots h apart
 --     spread_start, spread_turn, spread_end  the loop over both halves
 --     map-tab                                a list by place
---     one-.., counts-one, counts_halves      the count of one position, and of a block by its halves
+--     one-.., counts_one, counts_halves      the count of one position, and of a block by its halves
 --     counts-most, counts-none               no more than positions; none where nothing is erased
 --     counts_word                            of a whole word it is the number of unknowns
 --     lost_here, lost-later, lost_end        the search for an erased symbol
@@ -87,10 +87,7 @@ module _ (h j : ℕ) (m : List ℕ) (lm : length m ≡ h + h) (hj : j < h) where
       }
 
   pub spread_kept : get_or m (h + j) 0 ≤ get_or m j 0 → SpreadOne h j m m
-  spread_kept p =
-      let a = get_or m j 0 in
-      let b = get_or m (h + j) 0 in
-      record { left = larger_either a b p; right = smaller_both a b p; others = λ i n₁ n₂. refl }
+  spread_kept p = record { left = larger_either (get_or m j 0) (get_or m (h + j) 0) p; right = smaller_both (get_or m j 0) (get_or m (h + j) 0) p; others = λ i n₁ n₂. refl }
 
 -- ---- the loop: done below j, as it was from j on
 
@@ -112,15 +109,15 @@ spread_turn {h} {j} {m} {m'} {m''} hj u o =
       right = λ i p q. o.others (h + i) (λ z. omega arith) (λ z. omega arith) ∙ u.right i (omega arith) q;
     }
   where
-    as_before : (f : Bool → Bool → Bool) → f (lost_at m' j) (lost_at m' (h + j)) ≡ f (lost_at m j) (lost_at m (h + j))
-    as_before f = ap₂ (λ (a b : ℕ). f (erased a) (erased b)) (u.left j (omega arith) hj) (u.right j (omega arith) hj)
+    here : (f : Bool → Bool → Bool) → f (lost_at m' j) (lost_at m' (h + j)) ≡ f (lost_at m j) (lost_at m (h + j))
+    here f = ap₂ (λ (a b : ℕ). f (erased a) (erased b)) (u.left j (omega arith) hj) (u.right j (omega arith) hj)
 
     go_left : (i : ℕ) → (i ≡ j) ⊎ (i < j) → lost_at m'' i ≡ (lost_at m i || lost_at m (h + i))
-    go_left i (inl e) = rw e (o.left ∙ as_before ◌||◌)
+    go_left i (inl e) = rw e (o.left ∙ here ◌||◌)
     go_left i (inr p) = ap erased (o.others i (λ z. omega arith) (λ z. omega arith)) ∙ u.lefts i p
 
     go_right : (i : ℕ) → (i ≡ j) ⊎ (i < j) → lost_at m'' (h + i) ≡ (lost_at m i && lost_at m (h + i))
-    go_right i (inl e) = rw e (o.right ∙ as_before ◌&&◌)
+    go_right i (inl e) = rw e (o.right ∙ here ◌&&◌)
     go_right i (inr p) = ap erased (o.others (h + i) (λ z. omega arith) (λ z. omega arith)) ∙ u.rights i p
 
 pub spread_end : {h j : ℕ} {m m' : List ℕ} → h ≤ j → SpreadUpTo h j m m' → Spread h m m'
@@ -149,11 +146,11 @@ open_free_append (frozen c m ∷ ks) ls (b ∷ o) p h = ap {B = List Bool} (λ (
 
 -- ---- the count
 
-pub counts-one : (sheet : List ℕ) (at k : ℕ) (m : List ℕ) → k ≡ 0 → length m ≡ 1 → open_one (rule_at sheet at) (get_or m 0 0) ≡ open_frees sheet at k m
+pub counts_one : (sheet : List ℕ) (at k : ℕ) (m : List ℕ) → k ≡ 0 → length m ≡ 1 → open_one (rule_at sheet at) (get_or m 0 0) ≡ open_frees sheet at k m
 unfolding open_frees opens
-counts-one sheet at k [] z l = absurd (omega arith)
-counts-one sheet at k (a ∷ b ∷ m) z l = absurd (omega arith)
-counts-one sheet at k (a ∷ []) z l = rw (z, add-zero at) (go (rule_at sheet at))
+counts_one sheet at k [] z l = absurd (omega arith)
+counts_one sheet at k (a ∷ b ∷ m) z l = absurd (omega arith)
+counts_one sheet at k (a ∷ []) z l = rw (z, add-zero at) (go (rule_at sheet at))
   where
     go : (r : Rule) → open_one r a ≡ ones (open_free (r ∷ []) (erased a ∷ []))
     go free = sym (add-zero (bit (erased a)))
@@ -196,8 +193,7 @@ module _ (sheet : List ℕ) (at k h : ℕ) (m m₁ : List ℕ) (eh : h ≡ 2 ^ k
       let rule : ℕ → Rule = λ j. rule_at sheet (at + j) in
       ap (λ (n : ℕ). tab n rule) lm ∙ tab_append h h rule
       ∙ ap₂ (λ (x y : List Rule). x ++ y) (ap (λ (n : ℕ). tab n rule) (sym len_left))
-      (tab_below h (λ (j : ℕ). rule (h + j)) (λ (j : ℕ). rule_at sheet (at + h + j))
-      (λ j p. let q : at + (h + j) ≡ at + h + j = omega arith in ap (rule_at sheet) q)
+      (tab_below h (λ (j : ℕ). rule (h + j)) (λ (j : ℕ). rule_at sheet (at + h + j)) (λ j p. let q : at + (h + j) ≡ at + h + j = omega arith in ap (rule_at sheet) q)
       ∙ ap (λ (n : ℕ). tab n (λ (j : ℕ). rule_at sheet (at + h + j))) (sym len_right))
 
   pub counts_halves : open_frees sheet at (suc k) m ≡ open_frees sheet at k (take h m₁) + open_frees sheet (at + h) k (drop h m₁)
@@ -210,11 +206,9 @@ module _ (sheet : List ℕ) (at k h : ℕ) (m m₁ : List ℕ) (eh : h ≡ 2 ^ k
       let ks = rules_from sheet at (length (take h m₁)) in
       let ls = rules_from sheet (at + h) (length (drop h m₁)) in
       let o : opens (suc k) (map erased m) ≡ opens k a ++ opens k b =
-      ap (opens (suc k)) all-is ∙ opens_append k l r (length-tab h (lost_at m) ∙ eh)
-      ∙ ap₂ (λ (x y : List Bool). opens k x ++ opens k y) (sym left_is) (sym right_is) in
+      ap (opens (suc k)) all-is ∙ opens_append k l r (length-tab h (lost_at m) ∙ eh) ∙ ap₂ (λ (x y : List Bool). opens k x ++ opens k y) (sym left_is) (sym right_is) in
       let n : length ks ≡ length (opens k a) =
-      length-tab (length (take h m₁)) (λ (j : ℕ). rule_at sheet (at + j)) ∙ len_left ∙ eh
-      ∙ sym (length-opens k a (length-map (take h m₁) erased ∙ len_left ∙ eh)) in
+      length-tab (length (take h m₁)) (λ (j : ℕ). rule_at sheet (at + j)) ∙ len_left ∙ eh ∙ sym (length-opens k a (length-map (take h m₁) erased ∙ len_left ∙ eh)) in
       ap₂ (λ (x : List Rule) (y : List Bool). ones (open_free x y)) rules-is o ∙ ap ones (open_free_append ks ls (opens k a) (opens k b) n)
       ∙ count_append (λ (x : Bool). x) (open_free ks (opens k a)) (open_free ls (opens k b))
 
@@ -232,15 +226,13 @@ counts-none sheet at k m l h =
 pub counts_word : (sheet word : List ℕ) (n : ℕ) → length word ≡ 2 ^ n → open_frees sheet 0 n word ≡ unknowns n (rules n sheet) word
 unfolding open_frees unknowns open_all rules
 counts_word sheet word n l =
-    ap₂ (λ (x : List Rule) (y : List Bool). ones (open_free x y))
-    (ap (rules_from sheet 0) l ∙ tab_ext (2 ^ n) (λ (j : ℕ). rule_at sheet (0 + j)) (rule_at sheet) (λ j. ap (rule_at sheet) (zero-add j)))
-    (sym (open_list n (map erased word) (length-map word erased ∙ l)))
+    ap₂ (λ (x : List Rule) (y : List Bool). ones (open_free x y)) (ap (rules_from sheet 0) l ∙ tab_ext (2 ^ n) (λ (j : ℕ). rule_at sheet (0 + j)) (rule_at sheet) (λ j. ap (rule_at sheet) (zero-add j))) (sym (open_list n (map erased word) (length-map word erased ∙ l)))
 
 -- ---- one position, by its record
 
 module _ (sheet : List ℕ) (at s : ℕ) {b : Bool} (e : b ≡ eqb (byte sheet at 0) 0) where
-  pub one-frozen : not b ≡ true → 0 ≡ open_one (rule_at sheet at) s
-  one-frozen z = rw (rule_frozen sheet at e (not-true b z))
+  pub one_frozen : not b ≡ true → 0 ≡ open_one (rule_at sheet at) s
+  one_frozen z = rw (rule_frozen sheet at e (not-true b z))
 
   pub one_open : not b ≡ false → 1 < s → 1 ≡ open_one (rule_at sheet at) s
   one_open z h = rw (rule_free sheet at e (not-false b z)) (ap bit (sym (above_lost s h)))
@@ -272,8 +264,7 @@ lost_end (a ∷ m) (suc j) h = lost_end m j (omega arith)
 
 -- ---- a word copied
 
-pub load_turn : (m word : List ℕ) (j : ℕ) → length m ≡ length word → j < length word → take j m ≡ take j word
-    → take (j + 1) (set m j (get_or word j 0)) ≡ take (j + 1) word
+pub load_turn : (m word : List ℕ) (j : ℕ) → length m ≡ length word → j < length word → take j m ≡ take j word → take (j + 1) (set m j (get_or word j 0)) ≡ take (j + 1) word
 load_turn m word j l h e =
     rw (add-one j) (take-suc-set m j (get_or word j 0) (omega arith) ∙ ap (λ (r : List ℕ). r ++ (get_or word j 0 ∷ [])) e ∙ sym (take-suc word j 0 h))
 

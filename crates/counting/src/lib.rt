@@ -53,7 +53,7 @@ fn some_lost(marks: &[u8]) -> bool
 }
 
 // 1 if position `at` is free and its symbol s is erased, else 0.
-fn count_position(sheet: &[u8], at: usize, s: u8) -> usize
+fn one(sheet: &[u8], at: usize, s: u8) -> usize
     ensures { result ≡ open_one (rule_at sheet.now at) s }
 {
     if !sheet::is_free(sheet, at) {
@@ -68,7 +68,7 @@ fn block(marks: &mut [u8], sheet: &[u8], at: usize, k: usize) -> usize
     ensures { result ≡ open_frees sheet.now at k marks.old }
 {
     if k == 0 {
-        count_position(sheet, at, marks[0])
+        one(sheet, at, marks[0])
     } else if !some_lost(marks) {
         0
     } else {

@@ -22,8 +22,9 @@ use Rattle.bits.proofs.RowsWritten.{paste-set, row_same, row_other}
 use Rattle.gf2.specs.Solve.{lead}
 use Rattle.meaning.specs.Sheet.{Rule}
 use Rattle.meaning.specs.Codewords.{fits, agrees, codewords, candidates}
-use Rattle.model.specs.RowValues.{unit_row, constant}
-use Rattle.model.proofs.OneBit.{has-nought, lead-within}
+use Rattle.model.specs.RowValues.{unit_row}
+use Rattle.verdict.specs.OffRows.{constant}
+use Rattle.verdict.proofs.OneBit.{has-nought, lead-within}
 use Rattle.verdict.proofs.Lanes.{lane_sym, lane_word, constant-unit, unit-bare}
 use Rattle.decoder.specs.Placing.{symbol_row, PutSymbol, Placed, Unplaced}
 
@@ -35,8 +36,7 @@ part-zeros a w n h =
     let e : a + (w + m) ≡ n = omega arith in
     let r : nought_row a ++ (nought_row w ++ nought_row m) ≡ nought_row n =
     ap (λ (l : List ℕ). nought_row a ++ l) (replicate-append-replicate w m 0) ∙ replicate-append-replicate a (w + m) 0 ∙ ap nought_row e in
-    ap (part w a) (sym r) ∙ ap (take w) (drop_at (nought_row a) (nought_row w ++ nought_row m) a (length-replicate a 0))
-    ∙ take_at (nought_row w) (nought_row m) w (length-replicate w 0)
+    ap (part w a) (sym r) ∙ ap (take w) (drop_at (nought_row a) (nought_row w ++ nought_row m) a (length-replicate a 0)) ∙ take_at (nought_row w) (nought_row m) w (length-replicate w 0)
 
 -- the first k of n zeros
 pub front_zeros : (k : ℕ) (l : List ℕ) → k ≤ length l → l ≡ replicate (length l) 0 → take (k - 0) l ≡ replicate k 0
@@ -48,8 +48,7 @@ front_zeros k l h e = let z : k - 0 ≡ k = omega arith in rw z (ap (take k) e �
 paste_own : (v : List ℕ) (a w : ℕ) → paste v a (part w a v) w ≡ v
 paste_own v a w =
     let t : take w (part w a v) ≡ part w a v = take-take w w (drop a v) (omega arith) in
-    rw (t, append_assoc (take a v) (part w a v) (drop (a + w) v)) (ap (λ (l : List ℕ). take a v ++ (part w a v ++ l)) (sym (drop-drop w a v))
-    ∙ ap (λ (l : List ℕ). take a v ++ l) (take-append-drop w (drop a v)) ∙ take-append-drop a v)
+    rw (t, append_assoc (take a v) (part w a v) (drop (a + w) v)) (ap (λ (l : List ℕ). take a v ++ (part w a v ++ l)) (sym (drop-drop w a v)) ∙ ap (λ (l : List ℕ). take a v ++ l) (take-append-drop w (drop a v)) ∙ take-append-drop a v)
 
 -- row j, which is 0
 module _ (c w j s n : ℕ) (v : List ℕ) (lv : length v ≡ n * w) (hj : j < n) (e : row w v j ≡ nought_row w) where
@@ -65,8 +64,7 @@ module _ (c w j s n : ℕ) (v : List ℕ) (lv : length v ≡ n * w) (hj : j < n)
   pub put_one : c < w → s ≡ 1 → PutSymbol c w j s v (set v (j * w + c) 1)
   put_one cw q =
       let lx : length (unit_row c w) ≡ w = length-set (replicate w 0) c 1 ∙ length-replicate w 0 in
-      let ev : set v (j * w + c) 1 ≡ paste v (j * w) (unit_row c w) w = ap (λ (l : List ℕ). set l (j * w + c) 1) clear
-      ∙ paste-set v (nought_row w) (j * w) w room (length-replicate w 0) c 1 cw in
+      let ev : set v (j * w + c) 1 ≡ paste v (j * w) (unit_row c w) w = ap (λ (l : List ℕ). set l (j * w + c) 1) clear ∙ paste-set v (nought_row w) (j * w) w room (length-replicate w 0) c 1 cw in
       record { new = row_same w n v lv j (unit_row c w) _ hj lx ev ∙ sym (rw (eq-eqb s 1 q) refl); old = row_other w n v lv j (unit_row c w) _ hj lx ev }
 
 -- ---- the loop
@@ -110,12 +108,10 @@ module _ (c w : ℕ) (hc : c < w) where
   same-fits (suc zero) x b q = ap (λ (t : Bool). fits (bit t) b) (ap (constant c) q ∙ constant-unit c w hc)
   same-fits (suc (suc s)) x b q = refl
 
-  same-agrees : (d : List ℕ) (f : ℕ → Row) → ((j : ℕ) → j < length d → f j ≡ symbol_row c w (get_or d j 2)) → (x : List Bool)
-      → agrees (lane_word (constant c) d f) x ≡ agrees d x
+  same-agrees : (d : List ℕ) (f : ℕ → Row) → ((j : ℕ) → j < length d → f j ≡ symbol_row c w (get_or d j 2)) → (x : List Bool) → agrees (lane_word (constant c) d f) x ≡ agrees d x
   same-agrees [] f k x = refl
   same-agrees (s ∷ d) f k [] = refl
-  same-agrees (s ∷ d) f k (b ∷ x) =
-      ap₂ ◌&&◌ (same-fits s (f 0) b (k 0 (omega arith))) (same-agrees d (λ (j : ℕ). f (suc j)) (λ j p. k (suc j) (omega arith)) x)
+  same-agrees (s ∷ d) f k (b ∷ x) = ap₂ ◌&&◌ (same-fits s (f 0) b (k 0 (omega arith))) (same-agrees d (λ (j : ℕ). f (suc j)) (λ j p. k (suc j) (omega arith)) x)
 
   pub placed-candidates : (n : ℕ) (ks : List Rule) (r : ℕ) (word v : List ℕ) → Placed c w (length word) word v
       → candidates n ks r (lane_word (constant c) word (row w v)) ≡ candidates n ks r word

@@ -1,7 +1,7 @@
 -- The archivist's demands, of any result that decode's promise allows: the answer a, and the bytes x of the buffer after the call.
 -- Standing premise: no fault of form, and room to answer, so that no refusal but 18 applies; the sheet has K at least 1.
 --     refused_for_size                      18 exactly when g passes the ceiling
---     one-agrees, none-agrees, some-agree   demand 2: unique, inconsistent, ambiguous of dimension d
+--     one_agrees, none-agrees, some-agree   demand 2: unique, inconsistent, ambiguous of dimension d
 --     written-strips                        the strips: settled, first, last; later bytes as found
 --     same_fate                             demand 3: two words erased in the same places
 --     more_read                             a word with some erased symbols filled in: never less is known
@@ -9,7 +9,6 @@
 --     ceiling_raised, ceiling_lowered       another ceiling changes no answer but to or from 18
 --     ceiling_enough                        18 names the least ceiling that suffices
 --     decode_determined                     any two results that the promise allows are equal
--- c is the ceiling and w the word.
 use mathlib.Core.Path.{◌≡◌, sym, ap, ◌∙◌, subst}
 use mathlib.Core.Logic.{◌⊎◌, inl, inr, ⊎_elim, ◌↔◌}
 use Prim.Native.Nat.{ℕ, ◌+◌, ◌^◌, ◌≤◌, ◌<◌}
@@ -29,7 +28,7 @@ use Rattle.meaning.proofs.Determined.{reply_determined}
 use Rattle.meaning.proofs.Demands.{code, over_iff, unique_iff, inconsistent_iff, ambiguous_iff, strips_shown, SameFate, demand_3}
 use Rattle.planning.specs.Filled.{filled_in}
 use Rattle.planning.specs.MoreKnown.{code_of, g_of, m_of, formed, MoreKnown}
-use Rattle.planning.proofs.Known.{numbers, balanced, more-known}
+use Rattle.planning.proofs.Known.{numbers, balanced, more_known}
 use Rattle.planning.proofs.Ceiling.{lowered, enough}
 
 module _ (n : ℕ) (s : List ℕ) (r c : ℕ) (w out x : List ℕ) (a : Answer) (p : reply x a ≡ decoding n s r c w out) where
@@ -50,27 +49,23 @@ module _ (n : ℕ) (s : List ℕ) (r c : ℕ) (w out x : List ℕ) (a : Answer) 
     refused_for_size = subst (λ (t : Reply). (code t ≡ 18) ↔ (c < g)) (sym p) (over_iff n s r c w out ok)
 
     module _ (h : g ≤ c) where
-      pub one-agrees : (numbersOf a ≡ 0 ∷ 0 ∷ g ∷ m ∷ 0 ∷ []) ↔ (length cs ≡ 1)
-      one-agrees = subst (λ (t : Reply). (numbersOf t.answer ≡ 0 ∷ 0 ∷ g ∷ m ∷ 0 ∷ []) ↔ (length cs ≡ 1)) (sym p) (unique_iff n s r c w out ok h)
+      pub one_agrees : (numbersOf a ≡ 0 ∷ 0 ∷ g ∷ m ∷ 0 ∷ []) ↔ (length cs ≡ 1)
+      one_agrees = subst (λ (t : Reply). (numbersOf t.answer ≡ 0 ∷ 0 ∷ g ∷ m ∷ 0 ∷ []) ↔ (length cs ≡ 1)) (sym p) (unique_iff n s r c w out ok h)
 
       pub none-agrees : (numbersOf a ≡ 2 ∷ 0 ∷ g ∷ m ∷ 0 ∷ []) ↔ (length cs ≡ 0)
       none-agrees = subst (λ (t : Reply). (numbersOf t.answer ≡ 2 ∷ 0 ∷ g ∷ m ∷ 0 ∷ []) ↔ (length cs ≡ 0)) (sym p) (inconsistent_iff n s r c w out ok h)
 
       pub some-agree : (d : ℕ) → (numbersOf a ≡ 1 ∷ 0 ∷ g ∷ m ∷ d ∷ []) ↔ ((1 ≤ d) × (length cs ≡ 2 ^ d))
-      some-agree d =
-          subst (λ (t : Reply). (numbersOf t.answer ≡ 1 ∷ 0 ∷ g ∷ m ∷ d ∷ []) ↔ ((1 ≤ d) × (length cs ≡ 2 ^ d))) (sym p)
-          (ambiguous_iff n s r c w out ok h d)
+      some-agree d = subst (λ (t : Reply). (numbersOf t.answer ≡ 1 ∷ 0 ∷ g ∷ m ∷ d ∷ []) ↔ ((1 ≤ d) × (length cs ≡ 2 ^ d))) (sym p) (ambiguous_iff n s r c w out ok h d)
 
       pub written-strips : 0 < length cs → x ≡ strips n cs ++ drop (length (strips n cs)) out
       written-strips l = subst (λ (t : Reply). t.bytes ≡ strips n cs ++ drop (length (strips n cs)) out) (sym p) (strips_shown n s r c w out ok h l)
 
 pub same_fate : (n : ℕ) (s : List ℕ) (r c : ℕ) (w w' out out' x x' : List ℕ) (a a' : Answer) → map erased w ≡ map erased w'
-    → reply x a ≡ decoding n s r c w out → reply x' a' ≡ decoding n s r c w' out' → refuses (formRefusals n s r c w (length out)) ≡ false
-    → refuses (formRefusals n s r c w' (length out')) ≡ false
+    → reply x a ≡ decoding n s r c w out → reply x' a' ≡ decoding n s r c w' out' → refuses (formRefusals n s r c w (length out)) ≡ false → refuses (formRefusals n s r c w' (length out')) ≡ false
     → SameFate n (reply x a) (reply x' a')
 same_fate n s r c w w' out out' x x' a a' e p q ok ok' =
-    subst (λ (t : Reply). SameFate n t (reply x' a')) (sym p) (subst (λ (t : Reply). SameFate n (decoding n s r c w out) t) (sym q)
-    (demand_3 n s r w w' e c out out' ok ok'))
+    subst (λ (t : Reply). SameFate n t (reply x' a')) (sym p) (subst (λ (t : Reply). SameFate n (decoding n s r c w out) t) (sym q) (demand_3 n s r w w' e c out out' ok ok'))
 
 -- ---- another word, or another ceiling
 
@@ -82,11 +77,10 @@ more_read n s r c w w' out out' x x' a a' f p q ok ok' =
     let good : (t : Reply) (m : Reply) → t ≡ m → formed (numbers t) ≡ true → formed (numbers m) ≡ true = λ t m e k. rw (← e) k in
     subst (λ (t : Reply). MoreKnown n w w' (numbers t) t.bytes (numbersOf a') x') (sym p)
     (subst (λ (t : Reply). MoreKnown n w w' (numbers (decoding n s r c w out)) (decoding n s r c w out).bytes (numbers t) t.bytes) (sym q)
-    (more-known n s r c w w' f out out' (good _ _ p ok) (good _ _ q ok')))
+    (more_known n s r c w w' f out out' (good _ _ p ok) (good _ _ q ok')))
 
 module _ (n : ℕ) (s : List ℕ) (r c : ℕ) (w out x : List ℕ) (a : Answer) (p : reply x a ≡ decoding n s r c w out) where
-  pub counts_bound : formed (numbersOf a) ≡ true → (code_of (numbersOf a) ≡ 18 → ⊥)
-      → m_of (numbersOf a) + ones (map erased w) + frees (rules n s) ≡ 2 ^ n + r + g_of (numbersOf a)
+  pub counts_bound : formed (numbersOf a) ≡ true → (code_of (numbersOf a) ≡ 18 → ⊥) → m_of (numbersOf a) + ones (map erased w) + frees (rules n s) ≡ 2 ^ n + r + g_of (numbersOf a)
   counts_bound ok h =
       subst (λ (t : Reply). m_of (numbers t) + ones (map erased w) + frees (rules n s) ≡ 2 ^ n + r + g_of (numbers t)) (sym p)
       (balanced n s r c w out (ap (λ (t : Reply). formed (numbers t)) (sym p) ∙ ok) (λ e. h (ap (λ (t : Reply). code_of (numbers t)) p ∙ e)))

@@ -1,7 +1,6 @@
 -- A codeword with nothing lost, and what encode wrote.
 --     whole_word        decodes to unique, itself in all three strips
 --     encode_decode     what encode wrote, decode gives back: of any results that the two promises allow
--- c is the ceiling and w the word.
 use mathlib.Core.Path.{◌≡◌, refl, sym, ap, ap₂, ◌∙◌}
 use Prim.Native.Nat.{ℕ, ◌+◌, ◌-◌, ◌*◌, ◌^◌, ◌≤◌}
 use native.Mathlib.Omega.{arith}
@@ -9,7 +8,9 @@ use mathlib.Core.Bool.{Bool, true, false}
 use mathlib.Core.List.{List, [], ◌∷◌, ◌++◌, map}
 use lib.ListN.{length, take, drop, length-map}
 use lib.Seq.{take_at}
-use Rattle.bits.specs.Vectors.{bit, keep, tab}
+use lib.Dec.{ltb}
+use borrow.Author.Tests.{le-ltb}
+use Rattle.bits.specs.Vectors.{bit, pick, keep, tab}
 use Rattle.meaning.specs.Limits.{largest_ceiling}
 use Rattle.meaning.specs.Transform.{polar}
 use Rattle.meaning.specs.Sheet.{Rule, rules, frees}
@@ -20,7 +21,7 @@ use Rattle.meaning.specs.Strips.{settled_at, settled, strips}
 use Rattle.meaning.specs.Payload.{encoded}
 use Rattle.meaning.specs.Answers.{Reply, refuses, isDone, isOne, sheetRefusals, wordRefusals, encodeRefusals, leaving, writing, verdict, encoding, decoding}
 use Rattle.meaning.specs.declared.Answer.{Answer}
-use Rattle.meaning.specs.declared.Answer.TheVariants.{Done, Unique}
+use Rattle.meaning.specs.declared.Answer.TheVariants.{Done, Unique, TooMany}
 use Rattle.meaning.proofs.Polar.{length-polar, polar-polar}
 use Rattle.meaning.proofs.Sound.{length-rules}
 use Rattle.meaning.proofs.Gap.{nothing-lost}
@@ -28,14 +29,14 @@ use Rattle.meaning.proofs.Encode.{encoded-keeps}
 use Rattle.meaning.proofs.Refusals.{none_append}
 use Rattle.meaning.proofs.Forms.{good, worded}
 use Rattle.meaning.proofs.ReadBack.{whole, encode_is, word_none, encoded-none}
-use Rattle.meaning.proofs.Demands.{under}
-use Rattle.decoder.proofs.Deciding.{form_none}
+use Rattle.decoder.specs.Deciding.{deciding}
+use Rattle.decoder.proofs.Deciding.{form_none, decode-formed}
 
 -- one candidate is settled everywhere
-settled-one : (x : List Bool) → tab (length x) (settled_at (x ∷ [])) ≡ map bit x
-settled-one [] = refl
-settled-one (true ∷ x) = ap {B = List ℕ} (λ t. 1 ∷ t) (settled-one x)
-settled-one (false ∷ x) = ap {B = List ℕ} (λ t. 0 ∷ t) (settled-one x)
+settled_one : (x : List Bool) → tab (length x) (settled_at (x ∷ [])) ≡ map bit x
+settled_one [] = refl
+settled_one (true ∷ x) = ap {B = List ℕ} (λ t. 1 ∷ t) (settled_one x)
+settled_one (false ∷ x) = ap {B = List ℕ} (λ t. 0 ∷ t) (settled_one x)
 
 module _ (n : ℕ) (s : List ℕ) (r c : ℕ) (out : List ℕ) (x : List Bool) (lx : length x ≡ 2 ^ n) (k : keeps (rules n s) r (polar n x) ≡ true)
     (ok : refuses (sheetRefusals n s r) ≡ false) (room : 3 * 2 ^ n ≤ length out) (low : c ≤ largest_ceiling) where
@@ -53,17 +54,17 @@ module _ (n : ℕ) (s : List ℕ) (r c : ℕ) (out : List ℕ) (x : List Bool) (
 
   three_times : strips n (x ∷ []) ≡ w ++ w ++ w
   unfolding strips settled
-  three_times = ap (λ (t : List ℕ). t ++ w ++ w) (ap (λ (j : ℕ). tab j (settled_at (x ∷ []))) (sym lx) ∙ settled-one x)
+  three_times = ap (λ (t : List ℕ). t ++ w ++ w) (ap (λ (j : ℕ). tab j (settled_at (x ∷ []))) (sym lx) ∙ settled_one x)
 
   decoded-whole : decoding n s r c w out ≡ writing (w ++ w ++ w) out (Unique 0 m)
-  unfolding verdict
+  unfolding deciding verdict
   decoded-whole =
-      under n s r c w out (form_none n s r c w out ok word_fine low) (omega (arith, nothing-lost n (rules n s) x lx))
-      ∙ ap₂ (λ (g : ℕ) (cs : List (List Bool)). verdict n g m cs out) (nothing-lost n (rules n s) x lx) itself
+      sym (decode-formed n s r c w out (form_none n s r c w out ok word_fine low))
+      ∙ ap₂ (λ (g : ℕ) (cs : List (List Bool)). pick (ltb c g) (leaving out (TooMany g)) (verdict n g m cs out)) (nothing-lost n (rules n s) x lx) itself
+      ∙ ap (λ (b : Bool). pick b (leaving out (TooMany 0)) (verdict n 0 m (x ∷ []) out)) (le-ltb c 0 (omega arith))
       ∙ ap (λ (t : List ℕ). writing t out (Unique 0 m)) three_times
 
-  pub whole_word : (y : List ℕ) (a : Answer) → leaving y a ≡ decoding n s r c w out
-      → (a ≡ Unique 0 m) × (y ≡ (w ++ w ++ w) ++ drop (length (w ++ w ++ w)) out)
+  pub whole_word : (y : List ℕ) (a : Answer) → leaving y a ≡ decoding n s r c w out → (a ≡ Unique 0 m) × (y ≡ (w ++ w ++ w) ++ drop (length (w ++ w ++ w)) out)
   whole_word y a p = (ap (λ (t : Reply). t.answer) (p ∙ decoded-whole), ap (λ (t : Reply). t.bytes) (p ∙ decoded-whole))
 
 -- ---- what encode wrote
@@ -94,7 +95,5 @@ module _ (n : ℕ) (s : List ℕ) (r c : ℕ) (p out out' y z : List ℕ) (a b :
       let (lu, ku, tu) = encoded-keeps n ks r (length-rules n s) g.ordered bits size in
       let lx : length (polar n u) ≡ 2 ^ n = length-polar n u lu in
       let wrote : take (2 ^ n) y ≡ word =
-      ap (λ (t : Reply). take (2 ^ n) t.bytes) (e ∙ encode_is n s r p out fine)
-      ∙ take_at word (drop (length word) out) (2 ^ n) (length-map (polar n u) bit ∙ lx) in
-      whole_word n s r c out' (polar n u) lx (ap (keeps ks r) (polar-polar n u lu) ∙ ku) ns room low z b
-      (f ∙ ap (λ (t : List ℕ). decoding n s r c t out') wrote)
+      ap (λ (t : Reply). take (2 ^ n) t.bytes) (e ∙ encode_is n s r p out fine) ∙ take_at word (drop (length word) out) (2 ^ n) (length-map (polar n u) bit ∙ lx) in
+      whole_word n s r c out' (polar n u) lx (ap (keeps ks r) (polar-polar n u lu) ∙ ku) ns room low z b (f ∙ ap (λ (t : List ℕ). decoding n s r c t out') wrote)

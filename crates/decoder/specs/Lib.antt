@@ -1,6 +1,6 @@
--- Asking: what is asked of a word.
+-- Deciding: decoding, part by part.
 -- Placing: rows made of a word's symbols.
--- Rooms: the rows of a word and the room for them.
-pub mod Asking
+-- Rooms: the words of the room for a word's rows.
+pub mod Deciding
 pub mod Placing
 pub mod Rooms

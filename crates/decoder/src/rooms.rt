@@ -1,15 +1,12 @@
 // Room for the rows of a word, N symbols and N + r equations, by need: clearing room for the largest code costs more than
 // answering a short word.
-ghost use Rattle.std.specs.Prelude.{◌≡◌, ◌*◌, ◌≤◌, length, replicate};
+ghost use Rattle.std.specs.Prelude.{◌≡◌, ◌+◌, ◌*◌, ◌≤◌, length, replicate};
 ghost use Rattle.meaning.specs.Answers.{reply};
-ghost use Rattle.meaning.specs.Forms.{Formed};
 ghost use Rattle.descent.specs.Descending.{widest};
-ghost use Rattle.decoder.specs.Asking.{needed, asked};
-ghost use Rattle.decoder.specs.Rooms.{Rowed, Roomy, most_wide, few_words, some_words, many_words, most_words};
+ghost use Rattle.decoder.specs.Deciding.{deciding, Formed};
+ghost use Rattle.decoder.specs.Rooms.{most_wide, few_words, some_words, many_words, most_words};
 
-use super::ask::Ask;
 use meaning::{Answer, limits};
-use system::Terms;
 
 // Enough for N = 16 and up to 63 unknowns.
 const FEW: usize = 32;
@@ -28,97 +25,109 @@ const CHECK: usize = system::LONGEST_CHECK * (limits::LARGEST_CEILING / 64 + 2);
 
 // `answer`, in slices with room for the rows; that for the symbols' holds zeros.
 fn within(
-    t: Terms,
+    c: usize,
+    n: usize,
     sheet: &[u8],
+    r: usize,
+    g: usize,
     word: &[u8],
     vals: &mut [u64],
     us: &mut [u64],
     eqs: &mut [u64],
     out: &mut [u8],
-    ask: Ask,
 ) -> Answer
-    requires formed { Formed t.n sheet.now t.r t.most (length word.now) × (needed ask t.n ≤ length out.old) }
-    requires rowed { Rowed 1 t.most t.coeffs t.words widest × (vals.old ≡ replicate (length vals.old) 0) }
-    requires roomy { Roomy (length word.now) t.r t.words (length vals.old) (length us.old) (length eqs.old) }
-    ensures { reply out.new result ≡ asked ask t.n sheet.now t.r t.most word.now out.old }
+    requires formed { Formed n sheet.now r g word.now out.old }
+    requires g_bound { (g ≤ 64 * c) × (c + 1 ≤ widest) × (length word.now * (c + 1) ≤ length vals.old) × (length word.now * (c + 1) ≤ length us.old) × ((length word.now + r) * (c + 1) ≤ length eqs.old) × (vals.old ≡ replicate (length vals.old) 0) }
+    ensures { reply out.new result ≡ deciding n sheet.now r g word.now out.old }
 {
-    let k = word.len() * t.words;
-    let q = (word.len() + t.r) * t.words;
+    let k = word.len() * (c + 1);
+    let q = (word.len() + r) * (c + 1);
     crate::answer(
-        t,
+        c,
+        c + 1,
+        n,
         sheet,
+        r,
+        g,
         word,
         &mut vals[0..k],
         &mut us[0..k],
         &mut eqs[0..q],
         out,
-        ask,
     )
 }
 
 // `answer`, where FEW words are enough.
-fn few(t: Terms, sheet: &[u8], word: &[u8], out: &mut [u8], ask: Ask) -> Answer
-    requires formed { Formed t.n sheet.now t.r t.most (length word.now) × (needed ask t.n ≤ length out.old) }
-    requires rowed { Rowed 1 t.most t.coeffs t.words most_wide × (length word.now * t.words ≤ few_words) }
-    ensures { reply out.new result ≡ asked ask t.n sheet.now t.r t.most word.now out.old }
+fn few(c: usize, n: usize, sheet: &[u8], r: usize, g: usize, word: &[u8], out: &mut [u8]) -> Answer
+    requires formed { Formed n sheet.now r g word.now out.old }
+    requires g_bound { (g ≤ 64 * c) × (c + 1 ≤ most_wide) × (length word.now * (c + 1) ≤ few_words) }
+    ensures { reply out.new result ≡ deciding n sheet.now r g word.now out.old }
 {
     let mut vals = [0u64; FEW];
     let mut us = [0u64; FEW];
     let mut eqs = [0u64; FEW + CHECK];
-    within(t, sheet, word, &mut vals, &mut us, &mut eqs, out, ask)
+    within(c, n, sheet, r, g, word, &mut vals, &mut us, &mut eqs, out)
 }
 
 // `answer`, where SOME words are enough.
-fn some(t: Terms, sheet: &[u8], word: &[u8], out: &mut [u8], ask: Ask) -> Answer
-    requires formed { Formed t.n sheet.now t.r t.most (length word.now) × (needed ask t.n ≤ length out.old) }
-    requires rowed { Rowed 1 t.most t.coeffs t.words most_wide × (length word.now * t.words ≤ some_words) }
-    ensures { reply out.new result ≡ asked ask t.n sheet.now t.r t.most word.now out.old }
+fn some(c: usize, n: usize, sheet: &[u8], r: usize, g: usize, word: &[u8], out: &mut [u8]) -> Answer
+    requires formed { Formed n sheet.now r g word.now out.old }
+    requires g_bound { (g ≤ 64 * c) × (c + 1 ≤ most_wide) × (length word.now * (c + 1) ≤ some_words) }
+    ensures { reply out.new result ≡ deciding n sheet.now r g word.now out.old }
 {
     let mut vals = [0u64; SOME];
     let mut us = [0u64; SOME];
     let mut eqs = [0u64; SOME + CHECK];
-    within(t, sheet, word, &mut vals, &mut us, &mut eqs, out, ask)
+    within(c, n, sheet, r, g, word, &mut vals, &mut us, &mut eqs, out)
 }
 
 // `answer`, where MANY words are enough.
-fn many(t: Terms, sheet: &[u8], word: &[u8], out: &mut [u8], ask: Ask) -> Answer
-    requires formed { Formed t.n sheet.now t.r t.most (length word.now) × (needed ask t.n ≤ length out.old) }
-    requires rowed { Rowed 1 t.most t.coeffs t.words most_wide × (length word.now * t.words ≤ many_words) }
-    ensures { reply out.new result ≡ asked ask t.n sheet.now t.r t.most word.now out.old }
+fn many(c: usize, n: usize, sheet: &[u8], r: usize, g: usize, word: &[u8], out: &mut [u8]) -> Answer
+    requires formed { Formed n sheet.now r g word.now out.old }
+    requires g_bound { (g ≤ 64 * c) × (c + 1 ≤ most_wide) × (length word.now * (c + 1) ≤ many_words) }
+    ensures { reply out.new result ≡ deciding n sheet.now r g word.now out.old }
 {
     let mut vals = [0u64; MANY];
     let mut us = [0u64; MANY];
     let mut eqs = [0u64; MANY + CHECK];
-    within(t, sheet, word, &mut vals, &mut us, &mut eqs, out, ask)
+    within(c, n, sheet, r, g, word, &mut vals, &mut us, &mut eqs, out)
 }
 
 // `answer`, where MOST words are enough.
-fn most(t: Terms, sheet: &[u8], word: &[u8], out: &mut [u8], ask: Ask) -> Answer
-    requires formed { Formed t.n sheet.now t.r t.most (length word.now) × (needed ask t.n ≤ length out.old) }
-    requires rowed { Rowed 1 t.most t.coeffs t.words most_wide × (length word.now * t.words ≤ most_words) }
-    ensures { reply out.new result ≡ asked ask t.n sheet.now t.r t.most word.now out.old }
+fn most(c: usize, n: usize, sheet: &[u8], r: usize, g: usize, word: &[u8], out: &mut [u8]) -> Answer
+    requires formed { Formed n sheet.now r g word.now out.old }
+    requires g_bound { (g ≤ 64 * c) × (c + 1 ≤ most_wide) × (length word.now * (c + 1) ≤ most_words) }
+    ensures { reply out.new result ≡ deciding n sheet.now r g word.now out.old }
 {
     let mut vals = [0u64; MOST];
     let mut us = [0u64; MOST];
     let mut eqs = [0u64; MOST + CHECK];
-    within(t, sheet, word, &mut vals, &mut us, &mut eqs, out, ask)
+    within(c, n, sheet, r, g, word, &mut vals, &mut us, &mut eqs, out)
 }
 
-// Answers a word of `most` unknowns.
-pub fn answer(t: Terms, sheet: &[u8], word: &[u8], out: &mut [u8], ask: Ask) -> Answer
-    requires formed { Formed t.n sheet.now t.r t.most (length word.now) × (needed ask t.n ≤ length out.old) }
-    requires rowed { Rowed 1 t.most t.coeffs t.words most_wide × (length word.now * t.words ≤ most_words) }
-    ensures { reply out.new result ≡ asked ask t.n sheet.now t.r t.most word.now out.old }
+// Answers a word of g unknowns, whose rows have c words of coefficients and one for the constant.
+pub fn answer(
+    c: usize,
+    n: usize,
+    sheet: &[u8],
+    r: usize,
+    g: usize,
+    word: &[u8],
+    out: &mut [u8],
+) -> Answer
+    requires formed { Formed n sheet.now r g word.now out.old }
+    requires g_bound { (g ≤ 64 * c) × (c + 1 ≤ most_wide) × (length word.now * (c + 1) ≤ most_words) }
+    ensures { reply out.new result ≡ deciding n sheet.now r g word.now out.old }
 {
-    let words = word.len() * t.words;
+    let words = word.len() * (c + 1);
     if words <= FEW {
-        return few(t, sheet, word, out, ask);
+        return few(c, n, sheet, r, g, word, out);
     }
     if words <= SOME {
-        return some(t, sheet, word, out, ask);
+        return some(c, n, sheet, r, g, word, out);
     }
     if words <= MANY {
-        return many(t, sheet, word, out, ask);
+        return many(c, n, sheet, r, g, word, out);
     }
-    most(t, sheet, word, out, ask)
+    most(c, n, sheet, r, g, word, out)
 }

@@ -1,12 +1,11 @@
 -- The test of what a caller hands over, in the values that the code has by then: size, N; whole, N rows of w words.
 --     whole-fits                       N rows of w words, within a machine word
---     few-rows                         a list has at least as many words as rows
 --     roomy-.., filled-..              each test of the code, and what the definition then says
---     descentFits-..                       the whole test; what holds where all fits
+--     fitting-..                       the whole test; what holds where all fits
 use mathlib.Core.Path.{◌≡◌, sym, ◌∙◌}
 use Prim.Native.Nat.{ℕ, ◌*◌, ◌^◌, ◌≤◌, ◌<◌}
 use native.Mathlib.Omega.{arith}
-use native.Mathlib.Nat.{mul-le-mul_left, mul-le-mul_right}
+use native.Mathlib.Nat.{mul-le-mul_right}
 use mathlib.Core.Bool.{Bool, true, false, not}
 use lib.Dec.{eqb, leb, ltb}
 use lib.Pow.{pow_mono}
@@ -17,7 +16,7 @@ use Rattle.bits.proofs.Tests.{and_l, and_r}
 use Rattle.meaning.specs.Limits.{largest_n}
 use Rattle.sheet.specs.Shapes.{shaped}
 use Rattle.sheet.proofs.Shapes.{shaped-true}
-use Rattle.descent.specs.Descending.{widest, roomy, filled, descent_fits, DescentLengths}
+use Rattle.descent.specs.Descending.{widest, roomy, filled, fitting, Ready}
 
 pub whole-fits : (n size w : ℕ) → n ≤ largest_n → w ≤ widest → size ≡ 2 ^ n → Fits w64 (size * w)
 unfolding largest_n widest
@@ -26,9 +25,6 @@ whole-fits n size w h k e =
     let q : size ≤ 2 ^ largest_n = omega arith in
     let r : size * w ≤ 2 ^ largest_n * w = mul-le-mul_right w q in
     omega arith
-
-pub few-rows : (w k l : ℕ) → 0 < w → k * w ≤ l → k ≤ l
-few-rows w k l h e = let p : k * 1 ≤ k * w = mul-le-mul_left k h in omega arith
 
 module _ (most c w : ℕ) where
   pub roomy-wide : widest < w → roomy most c w ≡ false
@@ -57,17 +53,17 @@ module _ (n w v u e size : ℕ) (es : size ≡ 2 ^ n) where
   filled-eqs p q = rw (← es, eq-eqb v (size * w) p, eq-eqb u (size * w) q)
 
 module _ (n s d most c w v u e : ℕ) {t : Bool} where
-  pub descent_fits-shaped : t ≡ shaped n s d → not t ≡ true → descent_fits n s d most c w v u e ≡ false
-  unfolding descent_fits
-  descent_fits-shaped p q = rw (sym p ∙ not-true t q)
+  pub fitting-shaped : t ≡ shaped n s d → not t ≡ true → fitting n s d most c w v u e ≡ false
+  unfolding fitting
+  fitting-shaped p q = rw (sym p ∙ not-true t q)
 
-  pub descent_fits-roomy : shaped n s d ≡ true → t ≡ roomy most c w → not t ≡ true → descent_fits n s d most c w v u e ≡ false
-  unfolding descent_fits
-  descent_fits-roomy h p q = rw (h, sym p ∙ not-true t q)
+  pub fitting-roomy : shaped n s d ≡ true → t ≡ roomy most c w → not t ≡ true → fitting n s d most c w v u e ≡ false
+  unfolding fitting
+  fitting-roomy h p q = rw (h, sym p ∙ not-true t q)
 
-pub descent_fits-filled : (n s d most c w v u e : ℕ) → shaped n s d ≡ true → roomy most c w ≡ true → descent_fits n s d most c w v u e ≡ filled n w v u e
-unfolding descent_fits
-descent_fits-filled n s d most c w v u e h k = rw (h, k)
+pub fitting-filled : (n s d most c w v u e : ℕ) → shaped n s d ≡ true → roomy most c w ≡ true → fitting n s d most c w v u e ≡ filled n w v u e
+unfolding fitting
+fitting-filled n s d most c w v u e h k = rw (h, k)
 
 -- ---- where all fits
 
@@ -77,9 +73,9 @@ roomy-true most c w h =
     let k = and_r (leb w widest) _ h in
     (leb-true w widest (and_l _ _ h), ltb-true c w (and_l _ _ k), leb-true most (64 * c) (and_r (ltb c w) _ k))
 
-pub descent_fits-true : (n s d most c w v u e : ℕ) → descent_fits n s d most c w v u e ≡ true → DescentLengths n s d c w v u e × (most ≤ 64 * c)
-unfolding descent_fits filled
-descent_fits-true n s d most c w v u e h =
+pub fitting-true : (n s d most c w v u e : ℕ) → fitting n s d most c w v u e ≡ true → Ready n s d c w v u e × (most ≤ 64 * c)
+unfolding fitting filled
+fitting-true n s d most c w v u e h =
     let r = and_r (shaped n s d) _ h in
     let f = and_r (roomy most c w) _ r in
     let g = and_r (eqb v (2 ^ n * w)) _ f in

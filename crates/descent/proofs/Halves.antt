@@ -19,7 +19,7 @@ use Rattle.model.specs.Model.{Values, Walk, Out, sums, left_sym, right_sym, left
 use Rattle.model.proofs.Relate.{decode_grows}
 use Rattle.model.proofs.Steps.{decode_halves, decode-behind}
 use Rattle.model.specs.RowValues.{row_values}
-use Rattle.descent.specs.Block.{slot_of, due, sym_at, syms, out_of, decoded, EnteredLeft, EnteredRight, HalvesAdded}
+use Rattle.descent.specs.Block.{slot_of, due, sym_at, syms, out_of, decoded, Parted, Settled, Joined}
 
 -- ---- the model on lists by place
 
@@ -30,14 +30,11 @@ module _ {A : Type 0} (𝓥 : Values A) where
 
   left-tab : (n : ℕ) (f g : ℕ → Option A) → left_syms 𝓥 (tab n f) (tab n g) ≡ tab n (λ (i : ℕ). left_sym 𝓥 (f i) (g i))
   left-tab zero f g = refl
-  left-tab (suc n) f g =
-      ap {B = List (Option A)} (λ (r : List (Option A)). left_sym 𝓥 (f 0) (g 0) ∷ r) (left-tab n (λ (i : ℕ). f (suc i)) (λ (i : ℕ). g (suc i)))
+  left-tab (suc n) f g = ap {B = List (Option A)} (λ (r : List (Option A)). left_sym 𝓥 (f 0) (g 0) ∷ r) (left-tab n (λ (i : ℕ). f (suc i)) (λ (i : ℕ). g (suc i)))
 
   right-tab : (n : ℕ) (f g : ℕ → Option A) (x : ℕ → A) → right_syms 𝓥 (tab n f) (tab n g) (tab n x) ≡ tab n (λ (i : ℕ). right_sym 𝓥 (f i) (g i) (x i))
   right-tab zero f g x = refl
-  right-tab (suc n) f g x =
-      ap {B = List (Option A)} (λ (r : List (Option A)). right_sym 𝓥 (f 0) (g 0) (x 0) ∷ r)
-      (right-tab n (λ (i : ℕ). f (suc i)) (λ (i : ℕ). g (suc i)) (λ (i : ℕ). x (suc i)))
+  right-tab (suc n) f g x = ap {B = List (Option A)} (λ (r : List (Option A)). right_sym 𝓥 (f 0) (g 0) (x 0) ∷ r) (right-tab n (λ (i : ℕ). f (suc i)) (λ (i : ℕ). g (suc i)) (λ (i : ℕ). x (suc i)))
 
   -- equations are only added
   decode_adds : (rule : ℕ → Rule) (n : ℕ) (w : List (Option A)) (s : Walk A) → length s.eqs ≤ length (decode 𝓥 rule n w s).after.eqs
@@ -59,29 +56,25 @@ module _ (c w n h : ℕ) (sheet v m : List ℕ) (eh : h ≡ 2 ^ n) (lm : length 
   rights = tab h (λ (j : ℕ). sym_at w m v (h + j))
 
   -- the model, by halves
-  -- what the right half adds to what the left half gave
-  abbrev then_right : Out Row → Out Row
-  then_right l = join_out 𝓡 l (decode 𝓡 (rule_at sheet) n (right_syms 𝓡 lefts rights l.block) l.after)
-
-  by_halves : (s : Walk Row) → decoded c w sheet (suc n) m v s ≡ then_right (decode 𝓡 (rule_at sheet) n (left_syms 𝓡 lefts rights) s)
+  by_halves : (s : Walk Row) → decoded c w sheet (suc n) m v s ≡ (let l = decode 𝓡 (rule_at sheet) n (left_syms 𝓡 lefts rights) s in join_out 𝓡 l (decode 𝓡 (rule_at sheet) n (right_syms 𝓡 lefts rights l.block) l.after))
   by_halves s =
       ap (λ (x : List (Option Row)). decode 𝓡 (rule_at sheet) (suc n) x s) (ap (λ (i : ℕ). tab i (sym_at w m v)) lm ∙ tab_append h h (sym_at w m v))
       ∙ decode_halves 𝓡 (rule_at sheet) n lefts rights (length-tab h (sym_at w m v) ∙ eh) s
 
-  module _ (v₁ m₁ : List ℕ) (lv₁ : length v₁ ≡ h * w + h * w) (lm₁ : length m₁ ≡ h + h) (entered : EnteredLeft w h v m v₁ m₁) where
+  module _ (v₁ m₁ : List ℕ) (lv₁ : length v₁ ≡ h * w + h * w) (lm₁ : length m₁ ≡ h + h) (parted : Parted w h v m v₁ m₁) where
     -- what the left half is given
     left_is : left_syms 𝓡 lefts rights ≡ syms w (length (take h m₁)) (take h m₁) (take (h * w) v₁)
     left_is =
         left-tab 𝓡 h (sym_at w m v) (λ (j : ℕ). sym_at w m v (h + j))
         ∙ tab_below h (λ (j : ℕ). left_sym 𝓡 (sym_at w m v j) (sym_at w m v (h + j))) (sym_at w (take h m₁) (take (h * w) v₁)) (λ j p.
-        sym ((entered.slots j p).left c) ∙ sym (ap₂ slot_of (get_or-take h m₁ j 0 p) (row-take w h v₁ (omega arith) j p)))
+        sym ((parted.slots j p).left c) ∙ sym (ap₂ slot_of (get_or-take h m₁ j 0 p) (row-take w h v₁ (omega arith) j p)))
         ∙ ap (λ (i : ℕ). tab i (sym_at w (take h m₁) (take (h * w) v₁))) (sym (length-take-le h m₁ (omega arith)))
 
     abbrev left_out : Walk Row → Out Row
     left_out s = decoded c w sheet n (take h m₁) (take (h * w) v₁) s
 
-    whole_is : (s : Walk Row) → decoded c w sheet (suc n) m v s ≡ then_right (left_out s)
-    whole_is s = by_halves s ∙ ap (λ (x : List (Option Row)). then_right (decode 𝓡 (rule_at sheet) n x s)) left_is
+    whole_is : (s : Walk Row) → decoded c w sheet (suc n) m v s ≡ join_out 𝓡 (left_out s) (decode 𝓡 (rule_at sheet) n (right_syms 𝓡 lefts rights (left_out s).block) (left_out s).after)
+    whole_is s = by_halves s ∙ ap (λ (x : List (Option Row)). let l = decode 𝓡 (rule_at sheet) n x s in join_out 𝓡 l (decode 𝓡 (rule_at sheet) n (right_syms 𝓡 lefts rights l.block) l.after)) left_is
 
     pub left-next : (s : Walk Row) (lim : ℕ) → (decoded c w sheet (suc n) m v s).after.next ≤ lim → (left_out s).after.next ≤ lim
     left-next s lim q =
@@ -99,8 +92,7 @@ module _ (c w n h : ℕ) (sheet v m : List ℕ) (eh : h ≡ 2 ^ n) (lm : length 
 
     -- after the left half has come back
     module _ (vL mL v₂ m₂ v₃ m₃ : List ℕ) (lvL : length vL ≡ h * w) (lmL : length mL ≡ h) (e₂ : v₂ ≡ vL ++ drop (h * w) v₁) (f₂ : m₂ ≡ mL ++ drop h m₁)
-        (lv₃ : length v₃ ≡ h * w + h * w) (lm₃ : length m₃ ≡ h + h) (entered₃ : EnteredRight w h v₂ m₂ v₃ m₃)
-        (v_b m_b : List ℕ) (eB : v_b ≡ drop (h * w) v₃) (fB : m_b ≡ drop h m₃) where
+        (lv₃ : length v₃ ≡ h * w + h * w) (lm₃ : length m₃ ≡ h + h) (settled : Settled w h v₂ m₂ v₃ m₃) (v_b m_b : List ℕ) (eB : v_b ≡ drop (h * w) v₃) (fB : m_b ≡ drop h m₃) where
       rows₂_left : (j : ℕ) → j < h → row w v₂ j ≡ row w vL j
       rows₂_left j p = ap (λ (x : List ℕ). row w x j) e₂ ∙ row-left w h vL (drop (h * w) v₁) lvL j p
 
@@ -121,10 +113,10 @@ module _ (c w n h : ℕ) (sheet v m : List ℕ) (eh : h ≡ 2 ^ n) (lm : length 
       right_is =
           right-tab 𝓡 h (sym_at w m v) (λ (j : ℕ). sym_at w m v (h + j)) (row w vL)
           ∙ tab_below h (λ (j : ℕ). right_sym 𝓡 (sym_at w m v j) (sym_at w m v (h + j)) (row w vL j)) (sym_at w m_b v_b) (λ j p.
-          sym ((entered.slots j p).right c (row w vL j))
+          sym ((parted.slots j p).right c (row w vL j))
           ∙ ap₂ (λ (i : ℕ) (r : Row). due i r (row w vL j)) (sym (marks₂_right j)) (sym (rows₂_right j))
           ∙ ap (due (get_or m₂ (h + j) 0) (row w v₂ (h + j))) (sym (rows₂_left j p))
-          ∙ sym (entered₃.right j p)
+          ∙ sym (settled.right j p)
           ∙ sym (ap₂ slot_of (ap (λ (x : List ℕ). get_or x j 0) fB ∙ get_or-drop h m₃ j 0) (ap (λ (x : List ℕ). row w x j) eB ∙ row_drop w h v₃ (omega arith) j)))
           ∙ ap (λ (i : ℕ). tab i (sym_at w m_b v_b)) (sym len_B)
 
@@ -134,23 +126,17 @@ module _ (c w n h : ℕ) (sheet v m : List ℕ) (eh : h ≡ 2 ^ n) (lm : length 
 
         pub both_is : decoded c w sheet (suc n) m v s ≡ join_out 𝓡 (out_of w h vL s₁) right_out
         both_is =
-            whole_is s ∙ ap then_right (sym back)
+            whole_is s ∙ ap (λ (l : Out Row). join_out 𝓡 l (decode 𝓡 (rule_at sheet) n (right_syms 𝓡 lefts rights l.block) l.after)) (sym back)
             ∙ ap (λ (x : List (Option Row)). join_out 𝓡 (out_of w h vL s₁) (decode 𝓡 (rule_at sheet) n x s₁)) right_is
 
         -- after the right half has come back
-        pub whole-done : (vR v₄ v₅ : List ℕ) (s₂ : Walk Row) → v₄ ≡ take (h * w) v₃ ++ vR → length vR ≡ h * w → HalvesAdded w h v₄ v₅
-            → out_of w h vR s₂ ≡ right_out → out_of w (length m) v₅ s₂ ≡ decoded c w sheet (suc n) m v s
-        whole-done vR v₄ v₅ s₂ e₄ lR added r =
+        pub whole-done : (vR v₄ v₅ : List ℕ) (s₂ : Walk Row) → v₄ ≡ take (h * w) v₃ ++ vR → length vR ≡ h * w → Joined w h v₄ v₅ → out_of w h vR s₂ ≡ right_out → out_of w (length m) v₅ s₂ ≡ decoded c w sheet (suc n) m v s
+        whole-done vR v₄ v₅ s₂ e₄ lR joined r =
             let lt : length (take (h * w) v₃) ≡ h * w = length-take-le (h * w) v₃ (omega arith) in
-            let L₄ : (j : ℕ) → j < h → row w v₄ j ≡ row w vL j =
-            λ j p. ap (λ (x : List ℕ). row w x j) e₄ ∙ row-left w h (take (h * w) v₃) vR lt j p
-            ∙ row-take w h v₃ (omega arith) j p ∙ entered₃.left j p ∙ rows₂_left j p in
+            let L₄ : (j : ℕ) → j < h → row w v₄ j ≡ row w vL j = λ j p. ap (λ (x : List ℕ). row w x j) e₄ ∙ row-left w h (take (h * w) v₃) vR lt j p ∙ row-take w h v₃ (omega arith) j p ∙ settled.left j p ∙ rows₂_left j p in
             let R₄ : (j : ℕ) → row w v₄ (h + j) ≡ row w vR j = λ j. ap (λ (x : List ℕ). row w x (h + j)) e₄ ∙ row-right w h (take (h * w) v₃) vR lt j in
             let a : tab h (row w v₅) ≡ sums 𝓡 (rows w h vL) (rows w h vR) =
-            tab_below h (row w v₅) (λ (j : ℕ). row w vL j ⊻ row w vR j) (λ j p. added.left j p ∙ ap₂ ◌⊻◌ (L₄ j p) (R₄ j))
-            ∙ sym (sums-tab 𝓡 h (row w vL) (row w vR)) in
-            let b : tab h (λ (j : ℕ). row w v₅ (h + j)) ≡ rows w h vR =
-            tab_below h (λ (j : ℕ). row w v₅ (h + j)) (row w vR) (λ j p. added.right j p ∙ R₄ j) in
-            let d : rows w (length m) v₅ ≡ sums 𝓡 (rows w h vL) (rows w h vR) ++ rows w h vR =
-            ap (λ (i : ℕ). tab i (row w v₅)) lm ∙ tab_append h h (row w v₅) ∙ ap₂ (λ (x y : List Row). x ++ y) a b in
+            tab_below h (row w v₅) (λ (j : ℕ). row w vL j ⊻ row w vR j) (λ j p. joined.left j p ∙ ap₂ ◌⊻◌ (L₄ j p) (R₄ j)) ∙ sym (sums-tab 𝓡 h (row w vL) (row w vR)) in
+            let b : tab h (λ (j : ℕ). row w v₅ (h + j)) ≡ rows w h vR = tab_below h (λ (j : ℕ). row w v₅ (h + j)) (row w vR) (λ j p. joined.right j p ∙ R₄ j) in
+            let d : rows w (length m) v₅ ≡ sums 𝓡 (rows w h vL) (rows w h vR) ++ rows w h vR = ap (λ (i : ℕ). tab i (row w v₅)) lm ∙ tab_append h h (row w v₅) ∙ ap₂ (λ (x y : List Row). x ++ y) a b in
             ap (λ (x : List Row). record { block = x; after = s₂ }) d ∙ ap (λ (o : Out Row). join_out 𝓡 (out_of w h vL s₁) o) r ∙ sym both_is

@@ -2,7 +2,7 @@
 --     misfit, over, found_all     its three cases, in the values that the code has by then
 --     allowed                     what the descent asks, where all fits
 --     only_one                    any two results that it allows are equal
---     AfterDone, done-tells       what a caller has after Done: the slices as the model's rows
+--     Told, done-tells            what a caller has after Done: the slices as the model's rows
 use mathlib.Core.Path.{◌≡◌, refl, sym, ap, ap₂, ◌∙◌}
 use Prim.Native.Nat.{ℕ, ◌-◌, ◌*◌, ◌^◌, ◌≤◌, ◌<◌}
 use native.Mathlib.Omega.{arith}
@@ -21,25 +21,24 @@ use Rattle.counting.specs.Counting.{counting}
 use Rattle.counting.proofs.Lengths.{counting-all}
 use Rattle.model.specs.Model.{Out}
 use Rattle.model.proofs.RowValues.{rows-wide, rows_sizes}
-use Rattle.descent.specs.Descending.{descent_fits, Outcome, descended, found, written, descending, DescentLengths, Filled}
+use Rattle.descent.specs.Descending.{fitting, Outcome, descended, found, written, descending, Ready, Filled}
 use Rattle.descent.specs.declared.Descent.{Descent}
 use Rattle.descent.specs.declared.Descent.TheVariants.{Misfit, Over, Done}
-use Rattle.descent.proofs.Fitting.{descent_fits-true}
+use Rattle.descent.proofs.Fitting.{fitting-true}
 
 -- ---- its three cases
 
-module _ (n : ℕ) (sheet word : List ℕ) (most c w : ℕ) (vals us eqs : List ℕ) {t : Bool}
-    (p : t ≡ descent_fits n (length sheet) (length word) most c w (length vals) (length us) (length eqs)) where
+module _ (n : ℕ) (sheet word : List ℕ) (most c w : ℕ) (vals us eqs : List ℕ) {t : Bool} (p : t ≡ fitting n (length sheet) (length word) most c w (length vals) (length us) (length eqs)) where
   pub misfit : not t ≡ true → descended Misfit vals us eqs ≡ descending n sheet word most c w vals us eqs
   unfolding descending
   misfit h = rw (sym p ∙ not-true t h)
 
   module _ (h : not t ≡ false) (g : ℕ) (e : g ≡ counting n sheet word) where
-    fits : descent_fits n (length sheet) (length word) most c w (length vals) (length us) (length eqs) ≡ true
+    fits : fitting n (length sheet) (length word) most c w (length vals) (length us) (length eqs) ≡ true
     fits = sym p ∙ not-false t h
 
     number : g ≡ unknowns n (rules n sheet) word
-    unfolding descent_fits
+    unfolding fitting
     number = e ∙ counting-all n sheet word refl (and_l _ _ fits)
 
     pub over : most < g → descended (Over g) vals us eqs ≡ descending n sheet word most c w vals us eqs
@@ -47,10 +46,9 @@ module _ (n : ℕ) (sheet word : List ℕ) (most c w : ℕ) (vals us eqs : List 
     over q = rw (fits, ← number, lt-ltb most g q)
 
     -- what the descent asks
-    pub allowed : g ≤ most
-        → DescentLengths n (length sheet) (length word) c w (length vals) (length us) (length eqs) × (unknowns n (rules n sheet) word ≤ 64 * c)
+    pub allowed : g ≤ most → Ready n (length sheet) (length word) c w (length vals) (length us) (length eqs) × (unknowns n (rules n sheet) word ≤ 64 * c)
     allowed q =
-        let (r, k) = descent_fits-true n (length sheet) (length word) most c w (length vals) (length us) (length eqs) fits in
+        let (r, k) = fitting-true n (length sheet) (length word) most c w (length vals) (length us) (length eqs) fits in
         (r, omega (arith, number))
 
     pub found_all : g ≤ most → (v u es : List ℕ) (m : ℕ) → Filled (length eqs) w (found n sheet word c w vals) v u es m
@@ -63,16 +61,15 @@ module _ (n : ℕ) (sheet word : List ℕ) (most c w : ℕ) (vals us eqs : List 
 
 -- ---- one result
 
-pub only_one : (a b : Descent) (v u e v' u' e' : List ℕ) (meant : Outcome) → descended a v u e ≡ meant → descended b v' u' e' ≡ meant
-    → (a ≡ b) × (v ≡ v') × (u ≡ u') × (e ≡ e')
+pub only_one : (a b : Descent) (v u e v' u' e' : List ℕ) (meant : Outcome) → descended a v u e ≡ meant → descended b v' u' e' ≡ meant → (a ≡ b) × (v ≡ v') × (u ≡ u') × (e ≡ e')
 only_one a b v u e v' u' e' meant p q =
     let s : descended a v u e ≡ descended b v' u' e' = p ∙ sym q in
     (ap (λ (o : Outcome). o.answer) s, ap (λ (o : Outcome). o.vals) s, ap (λ (o : Outcome). o.us) s, ap (λ (o : Outcome). o.eqs) s)
 
 -- ---- after Done
 
-pub record AfterDone (n : ℕ) (sheet word : List ℕ) (most c w : ℕ) (vals us eqs : List ℕ) (g m : ℕ) (v u e : List ℕ) : Type 0 where
-  pub fit : DescentLengths n (length sheet) (length word) c w (length vals) (length us) (length eqs)
+pub record Told (n : ℕ) (sheet word : List ℕ) (most c w : ℕ) (vals us eqs : List ℕ) (g m : ℕ) (v u e : List ℕ) : Type 0 where
+  pub fit : Ready n (length sheet) (length word) c w (length vals) (length us) (length eqs)
   pub unknown : g ≡ unknowns n (rules n sheet) word
   pub few : g ≤ most
   pub room : most ≤ 64 * c
@@ -91,9 +88,9 @@ module _ (n : ℕ) (sheet word : List ℕ) (most c w : ℕ) (vals us eqs : List 
   O = found n sheet word c w vals
 
   -- the lists that the definition gives for Done
-  written_means : DescentLengths n (length sheet) (length word) c w (length vals) (length us) (length eqs) → G ≤ most → most ≤ 64 * c
-      → descended (Done g m) v u e ≡ written (length eqs) G w O → AfterDone n sheet word most c w vals us eqs g m v u e
-  written_means R h k q =
+  tells : Ready n (length sheet) (length word) c w (length vals) (length us) (length eqs) → G ≤ most → most ≤ 64 * c
+      → descended (Done g m) v u e ≡ written (length eqs) G w O → Told n sheet word most c w vals us eqs g m v u e
+  tells R h k q =
       let (sb, su) = rows_sizes c w (rule_at sheet) n word (row w vals) R.symbols in
       let (wb, wu, we) = rows-wide c w (rule_at sheet) n word (row w vals)
       (λ j p. let f = row_fit j (length word) w p in length_part vals (j * w) w (omega (arith, R.rows_v, ap (λ (k : ℕ). k * w) R.symbols))) in
@@ -115,15 +112,15 @@ module _ (n : ℕ) (sheet word : List ℕ) (most c w : ℕ) (vals us eqs : List 
         all_e = ee ∙ ap (λ (j : ℕ). flatten O.after.eqs ++ replicate (length eqs - j * w) 0) (sym em);
       }
 
-  pub done-tells : descended (Done g m) v u e ≡ descending n sheet word most c w vals us eqs → AfterDone n sheet word most c w vals us eqs g m v u e
+  pub done-tells : descended (Done g m) v u e ≡ descending n sheet word most c w vals us eqs → Told n sheet word most c w vals us eqs g m v u e
   unfolding descending
-  done-tells p = go (descent_fits n (length sheet) (length word) most c w (length vals) (length us) (length eqs)) (ltb most G) refl refl p
+  done-tells p = go (fitting n (length sheet) (length word) most c w (length vals) (length us) (length eqs)) (ltb most G) refl refl p
     where
-      go : (a b : Bool) → descent_fits n (length sheet) (length word) most c w (length vals) (length us) (length eqs) ≡ a → ltb most G ≡ b
+      go : (a b : Bool) → fitting n (length sheet) (length word) most c w (length vals) (length us) (length eqs) ≡ a → ltb most G ≡ b
           → descended (Done g m) v u e ≡ pick a (pick b (descended (Over G) vals us eqs) (written (length eqs) G w O)) (descended Misfit vals us eqs)
-          → AfterDone n sheet word most c w vals us eqs g m v u e
+          → Told n sheet word most c w vals us eqs g m v u e
       go false b f t q = let r = ap (λ (o : Outcome). o.answer) q in let z : ◌≡◌ {A = ℕ} 0 1 = cc in absurd (omega arith)
       go true true f t q = let r = ap (λ (o : Outcome). o.answer) q in let z : ◌≡◌ {A = ℕ} 0 1 = cc in absurd (omega arith)
       go true false f t q =
-          let (r, k) = descent_fits-true n (length sheet) (length word) most c w (length vals) (length us) (length eqs) f in
-          written_means r (ltb-false most G t) k q
+          let (r, k) = fitting-true n (length sheet) (length word) most c w (length vals) (length us) (length eqs) f in
+          tells r (ltb-false most G t) k q

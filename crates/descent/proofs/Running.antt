@@ -23,21 +23,19 @@ use Rattle.model.specs.Model.{Out, start, decode}
 use Rattle.model.proofs.Steps.{decode-most}
 use Rattle.model.proofs.RowValues.{rows_next}
 use Rattle.model.specs.RowValues.{row_values, held}
-use Rattle.descent.specs.Block.{slot_of, sym_at, syms, walk_of, out_of, decoded, BlockFits, BlockRoom, mark_of, Marked}
-use Rattle.descent.specs.Descending.{widest, found, DescentLengths, Filled}
+use Rattle.descent.specs.Block.{slot_of, sym_at, syms, walk_of, out_of, decoded, mark_of, Marked}
+use Rattle.descent.specs.Descending.{widest, found, Ready, Filled}
 
 slot_held : (s : ℕ) (x : Row) → slot_of (mark_of s) x ≡ held s x
 slot_held zero x = refl
 slot_held (suc zero) x = refl
 slot_held (suc (suc s)) x = refl
 
-pub marked_is : (c w n : ℕ) (sheet word v m : List ℕ) → length m ≡ length word → Marked (length word) word m
-    → decoded c w sheet n m v start ≡ found n sheet word c w v
+pub marked_is : (c w n : ℕ) (sheet word v m : List ℕ) → length m ≡ length word → Marked (length word) word m → decoded c w sheet n m v start ≡ found n sheet word c w v
 marked_is c w n sheet word v m l p =
     ap (λ (x : List (Option Row)). decode (row_values c w) (rule_at sheet) n x start)
     (ap (λ (i : ℕ). tab i (sym_at w m v)) l
-    ∙ tab_below (length word) (sym_at w m v) (λ (j : ℕ). held (get_or word j 2) (row w v j))
-    (λ j h. ap (λ (a : ℕ). slot_of a (row w v j)) (p.slot j h) ∙ slot_held (get_or word j 2) (row w v j)))
+    ∙ tab_below (length word) (sym_at w m v) (λ (j : ℕ). held (get_or word j 2) (row w v j)) (λ j h. ap (λ (a : ℕ). slot_of a (row w v j)) (p.slot j h) ∙ slot_held (get_or word j 2) (row w v j)))
 
 -- what N symbols ask of a block, and get
 module _ (c w n : ℕ) (sheet m v us es : List ℕ) where
@@ -47,8 +45,9 @@ module _ (c w n : ℕ) (sheet m v us es : List ℕ) where
   pub whole-most : length whole.after.eqs ≤ 2 ^ n
   whole-most = omega (arith, decode-most (row_values c w) (rule_at sheet) n (syms w (length m) m v) start)
 
-  pub rows_ask : DescentLengths n (length sheet) (length m) c w (length v) (length us) (length es) → whole.after.next ≤ 64 * c
-      → BlockFits c w n 0 sheet v m us × BlockRoom c w n sheet v m (walk_of w 0 us 0 0 es) (length es)
+  pub rows_ask : Ready n (length sheet) (length m) c w (length v) (length us) (length es) → whole.after.next ≤ 64 * c
+      → ((length m ≡ 2 ^ n) × (length v ≡ length m * w) × ((0 + length m) * w ≤ length us) × (c < w)) × (((0 + length m ≤ 8 * mask_bytes) × ((0 + length m) * record_bytes ≤ length sheet) × (64 * c < 2 ^ 63))
+      × (((decoded c w sheet n m v (walk_of w 0 us 0 0 es)).after.next ≤ 64 * c) × (length (decoded c w sheet n m v (walk_of w 0 us 0 0 es)).after.eqs * w ≤ length es)))
   unfolding mask_bytes widest
   rows_ask r few =
       let l = r.symbols in
@@ -58,22 +57,13 @@ module _ (c w n : ℕ) (sheet m v us es : List ℕ) where
       let f = size-most n (length m) r.small l in
       let e : length whole.after.eqs * w ≤ 2 ^ n * w = mul-le-mul_right w whole-most in
       let g = r.rows_e in (
-        record {
-          slots = l;
-          rows_v = r.rows_v ∙ ap (λ (i : ℕ). i * w) (sym l);
-          rows_u = rw (z, r.rows_u) (omega arith);
-          constant = y;
-          near = omega arith;
-          records = rw (z, r.records) (omega arith);
-          narrow = omega arith;
-        },
-        record { unknowns = few; equations = omega arith },
+        (l, r.rows_v ∙ ap (λ (i : ℕ). i * w) (sym l), rw (z, r.rows_u) (omega arith), y),
+        ((omega arith, rw (z, r.records) (omega arith), omega arith), (few, omega arith)),
       )
 
-  pub rows_back : (v' us' es' : List ℕ) (at i e : ℕ)
-      → (at ≡ 0 + length m) × (out_of w (length m) v' (walk_of w at us' i e es') ≡ decoded c w sheet n m v (walk_of w 0 us 0 0 es))
+  pub rows_back : (v' us' es' : List ℕ) (i e : ℕ) → out_of w (length m) v' (walk_of w (0 + length m) us' i e es') ≡ decoded c w sheet n m v (walk_of w 0 us 0 0 es)
       → out_of w (length m) v' (walk_of w (length m) us' i e es') ≡ whole
-  rows_back v' us' es' at i e (p, h) = ap (λ (y : ℕ). out_of w (length m) v' (walk_of w y us' i e es')) (sym (p ∙ zero-add (length m))) ∙ h
+  rows_back v' us' es' i e h = ap (λ (y : ℕ). out_of w (length m) v' (walk_of w y us' i e es')) (sym (zero-add (length m))) ∙ h
 
 -- ---- room
 
@@ -84,14 +74,13 @@ marked_next c w n sheet word vals l = rows_next c w (rule_at sheet) n word (row 
 
 -- ---- what fits together
 
-module _ {n s d c w v u e : ℕ} (r : DescentLengths n s d c w v u e) where
-  pub lengths_positions : d ≤ 8 * mask_bytes
-  lengths_positions = size-most n d r.small r.symbols
+module _ {n s d c w v u e : ℕ} (r : Ready n s d c w v u e) where
+  pub ready_positions : d ≤ 8 * mask_bytes
+  ready_positions = size-most n d r.small r.symbols
 
 -- a word's marks in place of the word, and rows as long as before
-pub lengths_marks : {n s d c w v u e : ℕ} → DescentLengths n s d c w v u e → (k v' : ℕ) → k ≡ d → v' ≡ v → DescentLengths n s k c w v' u e
-lengths_marks {n} {s} {d} {c} {w} {v} {u} {e} r k v' l q =
-    subst (λ (i : ℕ). DescentLengths n s i c w v' u e) (sym l) (subst (λ (i : ℕ). DescentLengths n s d c w i u e) (sym q) r)
+pub ready_marks : {n s d c w v u e : ℕ} → Ready n s d c w v u e → (k v' : ℕ) → k ≡ d → v' ≡ v → Ready n s k c w v' u e
+ready_marks {n} {s} {d} {c} {w} {v} {u} {e} r k v' l q = subst (λ (i : ℕ). Ready n s i c w v' u e) (sym l) (subst (λ (i : ℕ). Ready n s d c w i u e) (sym q) r)
 
 -- ---- the slices
 
@@ -102,8 +91,7 @@ rows_run w n rs v k e l h =
     sym (take_all (k * w) v q) ∙ sym (flatten-rows w k v) ∙ ap flatten h
 
 -- the equations, and zeros from word `used` on
-eqs-zeroed : (w m : ℕ) (es es' : List ℕ) → m * w ≤ length es → es' ≡ zeroed es (m * w) (length es - m * w)
-    → es' ≡ flatten (rows w m es) ++ replicate (length es - m * w) 0
+eqs-zeroed : (w m : ℕ) (es es' : List ℕ) → m * w ≤ length es → es' ≡ zeroed es (m * w) (length es - m * w) → es' ≡ flatten (rows w m es) ++ replicate (length es - m * w) 0
 eqs-zeroed w m es es' h e =
     let k = length es - m * w in
     let nulls : List ℕ = replicate k 0 in
@@ -113,8 +101,7 @@ eqs-zeroed w m es es' h e =
     ∙ ap₂ (λ (x y : List ℕ). take (m * w) es ++ x ++ y) a b ∙ append-nil (take (m * w) es ++ nulls)
     ∙ ap (λ (x : List ℕ). x ++ nulls) (sym (flatten-rows w m es))
 
-module _ (w n : ℕ) (o : Out Row) (few : length o.after.eqs ≤ 2 ^ n) (k : ℕ) (lk : k ≡ 2 ^ n) (v u es : List ℕ) (i m : ℕ)
-    (h : out_of w k v (walk_of w k u i m es) ≡ o) where
+module _ (w n : ℕ) (o : Out Row) (few : length o.after.eqs ≤ 2 ^ n) (k : ℕ) (lk : k ≡ 2 ^ n) (v u es : List ℕ) (i m : ℕ) (h : out_of w k v (walk_of w k u i m es) ≡ o) where
   -- the number of equations
   many : m ≡ length o.after.eqs
   many = sym (length-tab m (row w es)) ∙ ap (λ (o : Out Row). length o.after.eqs) h
@@ -122,8 +109,7 @@ module _ (w n : ℕ) (o : Out Row) (few : length o.after.eqs ≤ 2 ^ n) (k : ℕ
   pub many-most : m * w ≤ 2 ^ n * w
   many-most = mul-le-mul_right w (omega (arith, many))
 
-  pub filled_up : (es' : List ℕ) (l : ℕ) → length v ≡ 2 ^ n * w → length u ≡ 2 ^ n * w → 2 ^ n * w ≤ l → length es ≡ l
-      → es' ≡ zeroed es (m * w) (length es - m * w) → Filled l w o v u es' m
+  pub filled_up : (es' : List ℕ) (l : ℕ) → length v ≡ 2 ^ n * w → length u ≡ 2 ^ n * w → 2 ^ n * w ≤ l → length es ≡ l → es' ≡ zeroed es (m * w) (length es - m * w) → Filled l w o v u es' m
   filled_up es' l lv lu room le e =
       record {
         vals = rows_run w n o.block v k lk lv (ap (λ (o : Out Row). o.block) h);

@@ -1,6 +1,6 @@
--- What enter_left, enter_right and add_halves do, slot by slot, and the turns of their loops.
---     enter-left_owed, enter-left-none, enter-left-known     the cases of two slots h apart
---     enter-right_owed, enter-right-none                        the two cases of a right slot
+-- What part, settle and join do, slot by slot, and the turns of their loops.
+--     part_owed, part_none, part-known                the cases of two slots h apart
+--     settle_owed, settle_none                        the two cases of a right slot
 --     ..-start, ..-turn, ..-end                       the loops: done below j, as it was from j on
 --     halves_added                                    the right half added to the left half at once
 use mathlib.Core.Path.{◌≡◌, refl, sym, ap, ap₂, ◌∙◌}
@@ -20,7 +20,7 @@ use Rattle.bits.proofs.RowXor.{length-⊻, get_or-⊻}
 use Rattle.bits.proofs.RowsWritten.{length-written, paste-part, paste-apart, row_same, row_other, copied_within-fits, added_within-fits}
 use Rattle.model.specs.Model.{left_sym, right_sym}
 use Rattle.model.specs.RowValues.{row_values}
-use Rattle.descent.specs.Block.{slot_of, due, sym_at, Paired, EnteredLeftAt, EnteredLeft, EnteredRightAt, EnteredRight, HalvesAdded}
+use Rattle.descent.specs.Block.{slot_of, due, sym_at, Paired, PartOne, Parted, SettleOne, Settled, Joined}
 
 -- ---- rows of a block of n slots, copied or added
 
@@ -58,16 +58,13 @@ module _ (w h j : ℕ) (v m : List ℕ) (lm : length m ≡ h + h) (lv : length v
   ne q = omega arith
 
   -- only the left one known
-  pub enter-left_owed : get_or m (h + j) 0 ≡ 0 → (get_or m j 0 ≡ 0 → ⊥) → (v' m' : List ℕ)
-      → v' ≡ copied_within v ((h + j) * w) (j * w) w → m' ≡ set (set m (h + j) 2) j 0 → EnteredLeftAt w h j v m v' m'
-  enter-left_owed r l v' m' cv em =
+  pub part_owed : get_or m (h + j) 0 ≡ 0 → (get_or m j 0 ≡ 0 → ⊥) → (v' m' : List ℕ) → v' ≡ copied_within v ((h + j) * w) (j * w) w → m' ≡ set (set m (h + j) 2) j 0 → PartOne w h j v m v' m'
+  part_owed r l v' m' cv em =
       let ev = row_copied w (h + h) (h + j) j v v' lv (omega arith) (omega arith) (λ q. ne (sym q)) cv in
       let lx : length (row w v j) ≡ w = length-row w (h + h) v lv j (omega arith) in
       let hi : h + j < h + h = omega arith in
       let a : get_or m' j 0 ≡ 0 = ap (λ (q : List ℕ). get_or q j 0) em ∙ get_or-set_same (set m (h + j) 2) j 0 0 (omega (arith, length-set m (h + j) 2)) in
-      let b : get_or m' (h + j) 0 ≡ 2 =
-      ap (λ (q : List ℕ). get_or q (h + j) 0) em ∙ get_or-set_other (set m (h + j) 2) j (h + j) 0 0 (λ q. ne (sym q))
-      ∙ get_or-set_same m (h + j) 2 0 (omega arith) in
+      let b : get_or m' (h + j) 0 ≡ 2 = ap (λ (q : List ℕ). get_or q (h + j) 0) em ∙ get_or-set_other (set m (h + j) 2) j (h + j) 0 0 (λ q. ne (sym q)) ∙ get_or-set_same m (h + j) 2 0 (omega arith) in
       record {
         slots = record {
           left = λ c. rw (a, r) (sym (left-none c w (sym_at w m v j)));
@@ -80,8 +77,8 @@ module _ (w h j : ℕ) (v m : List ℕ) (lm : length m ≡ h + h) (lv : length v
       }
 
   -- none known
-  pub enter-left-none : get_or m (h + j) 0 ≡ 0 → get_or m j 0 ≡ 0 → EnteredLeftAt w h j v m v m
-  enter-left-none r l = record { slots = record { left = λ c. rw (r, l) refl; right = λ c x. rw (r, l) refl }; others = λ i n₁ n₂. (refl, refl) }
+  pub part_none : get_or m (h + j) 0 ≡ 0 → get_or m j 0 ≡ 0 → PartOne w h j v m v m
+  part_none r l = record { slots = record { left = λ c. rw (r, l) refl; right = λ c x. rw (r, l) refl }; others = λ i n₁ n₂. (refl, refl) }
 
   module _ (r : get_or m (h + j) 0 ≡ 0 → ⊥) (m' : List ℕ) (em : m' ≡ set m (h + j) 1) where
     left_mark : get_or m' j 0 ≡ get_or m j 0
@@ -91,8 +88,8 @@ module _ (w h j : ℕ) (v m : List ℕ) (lm : length m ≡ h + h) (lv : length v
     right_mark = ap (λ (q : List ℕ). get_or q (h + j) 0) em ∙ get_or-set_same m (h + j) 1 0 (omega arith)
 
     -- both known
-    enter-left-both : (get_or m j 0 ≡ 0 → ⊥) → EnteredLeftAt w h j v m v m'
-    enter-left-both l =
+    part-both : (get_or m j 0 ≡ 0 → ⊥) → PartOne w h j v m v m'
+    part-both l =
         let kj = symbol-known (get_or m j 0) (row w v j) l in
         let ki = symbol-known (get_or m (h + j) 0) (row w v (h + j)) r in
         record {
@@ -104,8 +101,8 @@ module _ (w h j : ℕ) (v m : List ℕ) (lm : length m ≡ h + h) (lv : length v
         }
 
     -- only the right one known
-    enter-left-right : get_or m j 0 ≡ 0 → EnteredLeftAt w h j v m v m'
-    enter-left-right l =
+    part_right : get_or m j 0 ≡ 0 → PartOne w h j v m v m'
+    part_right l =
         let l' : get_or m' j 0 ≡ 0 = left_mark ∙ l in
         let ki = symbol-known (get_or m (h + j) 0) (row w v (h + j)) r in
         record {
@@ -114,14 +111,13 @@ module _ (w h j : ℕ) (v m : List ℕ) (lm : length m ≡ h + h) (lv : length v
         }
 
     -- the right one known
-    pub enter-left-known : EnteredLeftAt w h j v m v m'
-    enter-left-known = ⊎_elim enter-left-right enter-left-both (eq_or_ne (get_or m j 0) 0)
+    pub part-known : PartOne w h j v m v m'
+    part-known = ⊎_elim part_right part-both (eq_or_ne (get_or m j 0) 0)
 
   -- ---- a right slot
 
-  pub enter-right_owed : 1 < get_or m (h + j) 0 → (v' m' : List ℕ)
-      → v' ≡ added_within v ((h + j) * w) (j * w) w → m' ≡ set m (h + j) 1 → EnteredRightAt w h j v m v' m'
-  enter-right_owed p v' m' cv em =
+  pub settle_owed : 1 < get_or m (h + j) 0 → (v' m' : List ℕ) → v' ≡ added_within v ((h + j) * w) (j * w) w → m' ≡ set m (h + j) 1 → SettleOne w h j v m v' m'
+  settle_owed p v' m' cv em =
       let ev = row-added w (h + h) (h + j) j v v' lv (omega arith) (omega arith) (λ q. ne (sym q)) cv in
       let hi : h + j < h + h = omega arith in
       let x : Row = row w v (h + j) ⊻ row w v j in
@@ -132,8 +128,8 @@ module _ (w h j : ℕ) (v m : List ℕ) (lm : length m ≡ h + h) (lv : length v
         others = λ i n. (row_other w (h + h) v lv (h + j) x v' hi lx ev i n, ap (λ (q : List ℕ). get_or q i 0) em ∙ get_or-set_other m (h + j) i 1 0 n);
       }
 
-  pub enter-right-none : get_or m (h + j) 0 ≤ 1 → EnteredRightAt w h j v m v m
-  enter-right-none p = record { slot = sym (due-plain (get_or m (h + j) 0) (row w v (h + j)) (row w v j) p); others = λ i n. (refl, refl) }
+  pub settle_none : get_or m (h + j) 0 ≤ 1 → SettleOne w h j v m v m
+  settle_none p = record { slot = sym (due-plain (get_or m (h + j) 0) (row w v (h + j)) (row w v j) p); others = λ i n. (refl, refl) }
 
 -- ---- the loops: done below j, as it was from j on
 
@@ -141,7 +137,7 @@ pub record Same (w : ℕ) (v m v' m' : List ℕ) (i : ℕ) : Type 0 where
   pub row_is : row w v' i ≡ row w v i
   pub mark_is : get_or m' i 0 ≡ get_or m i 0
 
-pub record LeftUpTo (w h j : ℕ) (v m v' m' : List ℕ) : Type 0 where
+pub record PartUpTo (w h j : ℕ) (v m v' m' : List ℕ) : Type 0 where
   pub done : (i : ℕ) → i < j → Paired w h i v m v' m'
   pub left : (i : ℕ) → j ≤ i → i < h → Same w v m v' m' i
   pub right : (i : ℕ) → j ≤ i → i < h → Same w v m v' m' (h + i)
@@ -152,20 +148,14 @@ same_then w v m v' m' v'' m'' i s (p, q) = record { row_is = p ∙ s.row_is; mar
 sym-same : (w : ℕ) (v m v' m' : List ℕ) (i : ℕ) → Same w v m v' m' i → sym_at w m' v' i ≡ sym_at w m v i
 sym-same w v m v' m' i s = ap₂ slot_of s.mark_is s.row_is
 
-pub enter-left-start : (w h : ℕ) (v m : List ℕ) → LeftUpTo w h 0 v m v m
-enter-left-start w h v m =
-    record {
-      done = λ i p. absurd (omega arith);
-      left = λ i p q. record { row_is = refl; mark_is = refl };
-      right = λ i p q. record { row_is = refl; mark_is = refl };
-    }
+pub part-start : (w h : ℕ) (v m : List ℕ) → PartUpTo w h 0 v m v m
+part-start w h v m = record { done = λ i p. absurd (omega arith); left = λ i p q. record { row_is = refl; mark_is = refl }; right = λ i p q. record { row_is = refl; mark_is = refl } }
 
 below_suc : (i j : ℕ) → i < j + 1 → (i ≡ j) ⊎ (i < j)
 below_suc i j p = let q : i ≤ j = omega arith in eq-or-lt_of_le q
 
-pub enter-left_turn : {w h j : ℕ} {v m v' m' v'' m'' : List ℕ} → j < h → LeftUpTo w h j v m v' m' → EnteredLeftAt w h j v' m' v'' m''
-    → LeftUpTo w h (j + 1) v m v'' m''
-enter-left_turn {w} {h} {j} {v} {m} {v'} {m'} {v''} {m''} hj u o =
+pub part_turn : {w h j : ℕ} {v m v' m' v'' m'' : List ℕ} → j < h → PartUpTo w h j v m v' m' → PartOne w h j v' m' v'' m'' → PartUpTo w h (j + 1) v m v'' m''
+part_turn {w} {h} {j} {v} {m} {v'} {m'} {v''} {m''} hj u o =
     record {
       done = λ i p. go i (below_suc i j p);
       left = λ i p q. same_then w v m v' m' v'' m'' i (u.left i (omega arith) q) (o.others i (λ z. omega arith) (λ z. omega arith));
@@ -188,8 +178,8 @@ enter-left_turn {w} {h} {j} {v} {m} {v'} {m'} {v''} {m''} hj u o =
           right = λ c x. ap₂ (λ (n : ℕ) (r : Row). due n r x) b.1 b.0 ∙ (u.done i p).right c x;
         }
 
-pub enter-left_end : {w h j : ℕ} {v m v' m' v'' : List ℕ} → h ≤ j → LeftUpTo w h j v m v' m' → HalvesAdded w h v' v'' → EnteredLeft w h v m v'' m'
-enter-left_end {w} {h} {j} {v} {m} {v'} {m'} {v''} p u o =
+pub part_end : {w h j : ℕ} {v m v' m' v'' : List ℕ} → h ≤ j → PartUpTo w h j v m v' m' → Joined w h v' v'' → Parted w h v m v'' m'
+part_end {w} {h} {j} {v} {m} {v'} {m'} {v''} p u o =
     record {
       slots = λ i q. record {
         left = λ c. ap (slot_of (get_or m' i 0)) (o.left i q) ∙ (u.done i (omega arith)).left c;
@@ -197,17 +187,16 @@ enter-left_end {w} {h} {j} {v} {m} {v'} {m'} {v''} p u o =
       };
     }
 
-pub record RightUpTo (w h j : ℕ) (v m v' m' : List ℕ) : Type 0 where
+pub record SettleUpTo (w h j : ℕ) (v m v' m' : List ℕ) : Type 0 where
   pub done : (i : ℕ) → i < j → sym_at w m' v' (h + i) ≡ due (get_or m (h + i) 0) (row w v (h + i)) (row w v i)
   pub left : (i : ℕ) → i < h → row w v' i ≡ row w v i
   pub right : (i : ℕ) → j ≤ i → i < h → Same w v m v' m' (h + i)
 
-pub enter-right-start : (w h : ℕ) (v m : List ℕ) → RightUpTo w h 0 v m v m
-enter-right-start w h v m = record { done = λ i p. absurd (omega arith); left = λ i p. refl; right = λ i p q. record { row_is = refl; mark_is = refl } }
+pub settle_start : (w h : ℕ) (v m : List ℕ) → SettleUpTo w h 0 v m v m
+settle_start w h v m = record { done = λ i p. absurd (omega arith); left = λ i p. refl; right = λ i p q. record { row_is = refl; mark_is = refl } }
 
-pub enter-right_turn : {w h j : ℕ} {v m v' m' v'' m'' : List ℕ} → j < h → RightUpTo w h j v m v' m' → EnteredRightAt w h j v' m' v'' m''
-    → RightUpTo w h (j + 1) v m v'' m''
-enter-right_turn {w} {h} {j} {v} {m} {v'} {m'} {v''} {m''} hj u o =
+pub settle_turn : {w h j : ℕ} {v m v' m' v'' m'' : List ℕ} → j < h → SettleUpTo w h j v m v' m' → SettleOne w h j v' m' v'' m'' → SettleUpTo w h (j + 1) v m v'' m''
+settle_turn {w} {h} {j} {v} {m} {v'} {m'} {v''} {m''} hj u o =
     record {
       done = λ i p. go i (below_suc i j p);
       left = λ i p. (o.others i (λ z. omega arith)).0 ∙ u.left i p;
@@ -217,12 +206,11 @@ enter-right_turn {w} {h} {j} {v} {m} {v'} {m'} {v''} {m''} hj u o =
     go : (i : ℕ) → (i ≡ j) ⊎ (i < j) → sym_at w m'' v'' (h + i) ≡ due (get_or m (h + i) 0) (row w v (h + i)) (row w v i)
     go i (inl e) =
         let s = u.right j (omega arith) hj in
-        rw e (o.slot ∙ ap₂ (λ (n : ℕ) (r : Row). due n r (row w v' j)) s.mark_is s.row_is
-        ∙ ap (due (get_or m (h + j) 0) (row w v (h + j))) (u.left j hj))
+        rw e (o.slot ∙ ap₂ (λ (n : ℕ) (r : Row). due n r (row w v' j)) s.mark_is s.row_is ∙ ap (due (get_or m (h + j) 0) (row w v (h + j))) (u.left j hj))
     go i (inr p) = let b = o.others (h + i) (λ z. omega arith) in ap₂ slot_of b.1 b.0 ∙ u.done i p
 
-pub enter-right_end : {w h j : ℕ} {v m v' m' : List ℕ} → h ≤ j → RightUpTo w h j v m v' m' → EnteredRight w h v m v' m'
-enter-right_end p u = record { left = u.left; right = λ i q. u.done i (omega arith) }
+pub settle_end : {w h j : ℕ} {v m v' m' : List ℕ} → h ≤ j → SettleUpTo w h j v m v' m' → Settled w h v m v' m'
+settle_end p u = record { left = u.left; right = λ i q. u.done i (omega arith) }
 
 -- ---- the right half added to the left half, as one row of h * w words
 
@@ -255,13 +243,12 @@ module _ (w h : ℕ) (v v' : List ℕ) (lv : length v ≡ (h + h) * w) (e : v' �
     left_word : (k : ℕ) → k < w → get_or (row w v' j) k 0 ≡ get_or (row w v j ⊻ row w v (h + j)) k 0
     left_word k l =
         let f = here in
-        let z : half + (j * w + k) ≡ (h + j) * w + k = omega (arith, there) in
         get_or_part v' (j * w) w k l
         ∙ sym (get_or-take half v' (j * w + k) 0 (omega arith))
         ∙ ap (λ (x : Row). get_or x (j * w + k) 0) (ap (part half 0) written ∙ paste-part v sum 0 half (omega (arith, both)) length-sum)
         ∙ get_or-⊻ (part half 0 v) (part half half v) (j * w + k)
         ∙ ap₂ bit_xor (get_or-take half v (j * w + k) 0 (omega arith) ∙ sym (get_or_part v (j * w) w k l))
-        (get_or_part v half half (j * w + k) (omega arith) ∙ ap (λ (i : ℕ). get_or v i 0) z ∙ sym (get_or_part v ((h + j) * w) w k l))
+        (get_or_part v half half (j * w + k) (omega arith) ∙ ap (λ (i : ℕ). get_or v i 0) (let z : half + (j * w + k) ≡ (h + j) * w + k = omega (arith, there) in z) ∙ sym (get_or_part v ((h + j) * w) w k l))
         ∙ sym (get_or-⊻ (row w v j) (row w v (h + j)) k)
 
     right_word : (k : ℕ) → k < w → get_or (row w v' (h + j)) k 0 ≡ get_or (row w v (h + j)) k 0
@@ -270,8 +257,7 @@ module _ (w h : ℕ) (v v' : List ℕ) (lv : length v ≡ (h + h) * w) (e : v' �
         let z : (h + j) * w + k ≡ half + (j * w + k) = omega (arith, there) in
         get_or_part v' ((h + j) * w) w k l ∙ ap (λ (i : ℕ). get_or v' i 0) z
         ∙ sym (get_or_part v' half half (j * w + k) (omega arith))
-        ∙ ap (λ (x : Row). get_or x (j * w + k) 0)
-        (ap (part half half) written ∙ paste-apart v sum 0 half (omega (arith, both)) length-sum half (inl (omega arith)))
+        ∙ ap (λ (x : Row). get_or x (j * w + k) 0) (ap (part half half) written ∙ paste-apart v sum 0 half (omega (arith, both)) length-sum half (inl (omega arith)))
         ∙ get_or_part v half half (j * w + k) (omega arith) ∙ ap (λ (i : ℕ). get_or v i 0) (sym z) ∙ sym (get_or_part v ((h + j) * w) w k l)
 
     wide : (l : List ℕ) → length l ≡ (h + h) * w → (i : ℕ) → i < h + h → length (row w l i) ≡ w
@@ -288,5 +274,5 @@ module _ (w h : ℕ) (v v' : List ℕ) (lv : length v ≡ (h + h) * w) (e : v' �
         let a = wide v' size (h + j) (omega arith) in
         ext_get_or 0 (row w v' (h + j)) (row w v (h + j)) (a ∙ sym (wide v lv (h + j) (omega arith))) (λ k l. right_word k (omega arith))
 
-  pub halves_added : HalvesAdded w h v v'
+  pub halves_added : Joined w h v v'
   halves_added = record { left = left-row; right = right-row }

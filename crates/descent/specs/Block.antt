@@ -2,18 +2,14 @@
 --     slot_of, sym_at, syms   a slot, slot j, and all slots of a block as symbols. Mark 0: erased
 --     due                   a right slot once the left half is known. Mark 1: known; above: the left half's row is to be added
 --     walk_of, out_of         the slices as the model's states
---     next_then, row_then, eqs_then   one position: the unknowns, its row and the equations once it is done
---     LeafFits              what one position asks
 --     decoded               the model at a block
---     BlockFits, BlockRoom  what a block asks: all is there, and there is room for what it finds
 --     Paired, .., Marked    the steps, slot by slot: v and m before, v' and m' after
-use Rattle.std.specs.Prelude.{◌≡◌, ℕ, zero, suc, ◌+◌, ◌*◌, ◌^◌, ◌≤◌, ◌<◌, List, ◌++◌, length, get_or}
+use Rattle.std.specs.Prelude.{◌≡◌, ℕ, zero, suc, ◌+◌, ◌<◌, List, length, get_or}
 use Rattle.std.proofs.Math.Option.{Option, none, some}
 use Rattle.bits.specs.Vectors.{tab}
 use Rattle.bits.specs.Rows.{Row, ◌⊻◌, row, rows}
-use Rattle.meaning.specs.Limits.{record_bytes, mask_bytes}
 use Rattle.meaning.specs.Sheet.{rule_at}
-use Rattle.model.specs.Model.{Walk, Out, left_sym, right_sym, value_at, next_at, eqs_at, decode}
+use Rattle.model.specs.Model.{Walk, Out, left_sym, right_sym, decode}
 use Rattle.model.specs.RowValues.{row_values}
 
 abbrev pub slot_of : ℕ → Row → Option Row
@@ -37,45 +33,8 @@ walk_of w at us next n eqs = record { us = rows w at us; next = next; eqs = rows
 abbrev pub out_of : ℕ → ℕ → List ℕ → Walk Row → Out Row
 out_of w h vals s = record { block = rows w h vals; after = s }
 
--- ---- position `at`, whose symbol has this mark and the row v
-
-abbrev pub next_then : List ℕ → ℕ → ℕ → List ℕ → ℕ → ℕ
-next_then sheet at mark v next = next_at (rule_at sheet at) (slot_of mark v) next
-
-abbrev pub row_then : ℕ → ℕ → List ℕ → ℕ → ℕ → List ℕ → List ℕ → ℕ → Row
-row_then c w sheet at mark v us next = value_at (row_values c w) (rule_at sheet at) (slot_of mark v) (rows w at us) next
-
--- e equations before it
-abbrev pub eqs_then : ℕ → ℕ → List ℕ → ℕ → ℕ → List ℕ → List ℕ → ℕ → List ℕ → List Row
-eqs_then c w sheet at mark v us e eqs = rows w e eqs ++ eqs_at (row_values c w) (rule_at sheet at) (slot_of mark v) (rows w at us)
-
--- a row of w words, the rows of u before the position, a word for the constant, and a record that a mask can name
-pub record LeafFits (c w at : ℕ) (sheet v us : List ℕ) : Type 0 where
-  pub row_v : length v ≡ w
-  pub rows_u : at * w ≤ length us
-  pub constant : c < w
-  pub near : at < 8 * mask_bytes
-  pub records : (at + 1) * record_bytes ≤ length sheet
-
--- ---- a block of 2 ^ k slots, from position `at` on
-
 abbrev pub decoded : ℕ → ℕ → List ℕ → ℕ → List ℕ → List ℕ → Walk Row → Out Row
 decoded c w sheet k marks vals s = decode (row_values c w) (rule_at sheet) k (syms w (length marks) marks vals) s
-
--- its marks and rows, its rows of u, a word for the constant, and its records
-pub record BlockFits (c w k at : ℕ) (sheet v m us : List ℕ) : Type 0 where
-  pub slots : length m ≡ 2 ^ k
-  pub rows_v : length v ≡ length m * w
-  pub rows_u : (at + length m) * w ≤ length us
-  pub constant : c < w
-  pub near : at + length m ≤ 8 * mask_bytes
-  pub records : (at + length m) * record_bytes ≤ length sheet
-  pub narrow : 64 * c < 2 ^ 63
-
--- coefficients for its unknowns, and l words for its equations
-pub record BlockRoom (c w k : ℕ) (sheet v m : List ℕ) (s : Walk Row) (l : ℕ) : Type 0 where
-  pub unknowns : (decoded c w sheet k m v s).after.next ≤ 64 * c
-  pub equations : length (decoded c w sheet k m v s).after.eqs * w ≤ l
 
 -- ---- a block of h and h slots
 
@@ -89,24 +48,24 @@ pub record Split (w h j : ℕ) (v m v' m' : List ℕ) : Type 0 where
   pub left : (c : ℕ) → sym_at w m' v' j ≡ left_sym (row_values c w) (sym_at w m v j) (sym_at w m v (h + j))
   pub right : (c : ℕ) (x : Row) → due (get_or m' (h + j) 0) (row w v' (h + j)) x ≡ right_sym (row_values c w) (sym_at w m v j) (sym_at w m v (h + j)) x
 
-pub record EnteredLeftAt (w h j : ℕ) (v m v' m' : List ℕ) : Type 0 where
+pub record PartOne (w h j : ℕ) (v m v' m' : List ℕ) : Type 0 where
   pub slots : Paired w h j v m v' m'
   pub others : (i : ℕ) → (i ≡ j → ⊥) → (i ≡ h + j → ⊥) → (row w v' i ≡ row w v i) × (get_or m' i 0 ≡ get_or m i 0)
 
-pub record EnteredLeft (w h : ℕ) (v m v' m' : List ℕ) : Type 0 where
+pub record Parted (w h : ℕ) (v m v' m' : List ℕ) : Type 0 where
   pub slots : (j : ℕ) → j < h → Split w h j v m v' m'
 
 -- the right slot gets what it is owed
-pub record EnteredRightAt (w h j : ℕ) (v m v' m' : List ℕ) : Type 0 where
+pub record SettleOne (w h j : ℕ) (v m v' m' : List ℕ) : Type 0 where
   pub slot : sym_at w m' v' (h + j) ≡ due (get_or m (h + j) 0) (row w v (h + j)) (row w v j)
   pub others : (i : ℕ) → (i ≡ h + j → ⊥) → (row w v' i ≡ row w v i) × (get_or m' i 0 ≡ get_or m i 0)
 
-pub record EnteredRight (w h : ℕ) (v m v' m' : List ℕ) : Type 0 where
+pub record Settled (w h : ℕ) (v m v' m' : List ℕ) : Type 0 where
   pub left : (j : ℕ) → j < h → row w v' j ≡ row w v j
   pub right : (j : ℕ) → j < h → sym_at w m' v' (h + j) ≡ due (get_or m (h + j) 0) (row w v (h + j)) (row w v j)
 
 -- the right half is added to the left half
-pub record HalvesAdded (w h : ℕ) (v v' : List ℕ) : Type 0 where
+pub record Joined (w h : ℕ) (v v' : List ℕ) : Type 0 where
   pub left : (j : ℕ) → j < h → row w v' j ≡ row w v j ⊻ row w v (h + j)
   pub right : (j : ℕ) → j < h → row w v' (h + j) ≡ row w v (h + j)
 

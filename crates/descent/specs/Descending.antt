@@ -1,7 +1,7 @@
 -- What `descend` promises. A sheet of N = 2 ^ n records, a word of N symbols, rows of w words (`model`'s RowValues), and room for
 -- rows.
 --     widest               the most words of a row
---     descent_fits          whether all that is handed over fits together
+--     fitting              whether all that is handed over fits together
 --     Outcome, descended   an answer, and what the three lists hold
 --     descending           the answer and the lists after the call
 use Rattle.std.specs.Prelude.{◌≡◌, ℕ, ◌-◌, ◌*◌, ◌^◌, ◌≤◌, ◌<◌, Bool, ◌&&◌, length, replicate, eqb, leb, ltb}
@@ -30,8 +30,8 @@ roomy most c w = leb w widest && (ltb c w && leb most (64 * c))
 unfoldable pub filled : ℕ → ℕ → ℕ → ℕ → ℕ → Bool
 filled n w vals us eqs = eqb vals (2 ^ n * w) && (eqb us (2 ^ n * w) && leb (2 ^ n * w) eqs)
 
-unfoldable pub descent_fits : ℕ → ℕ → ℕ → ℕ → ℕ → ℕ → ℕ → ℕ → ℕ → Bool
-descent_fits n sheet word most c w vals us eqs = shaped n sheet word && (roomy most c w && filled n w vals us eqs)
+unfoldable pub fitting : ℕ → ℕ → ℕ → ℕ → ℕ → ℕ → ℕ → ℕ → ℕ → Bool
+fitting n sheet word most c w vals us eqs = shaped n sheet word && (roomy most c w && filled n w vals us eqs)
 
 -- ---- the promise
 
@@ -58,13 +58,13 @@ written k g w o =
 unfoldable pub descending : ℕ → List ℕ → List ℕ → ℕ → ℕ → ℕ → List ℕ → List ℕ → List ℕ → Outcome
 descending n sheet word most c w vals us eqs =
     let g = unknowns n (rules n sheet) word in
-    pick (descent_fits n (length sheet) (length word) most c w (length vals) (length us) (length eqs))
+    pick (fitting n (length sheet) (length word) most c w (length vals) (length us) (length eqs))
     (pick (ltb most g) (descended (Over g) vals us eqs) (written (length eqs) g w (found n sheet word c w vals)))
     (descended Misfit vals us eqs)
 
 -- ---- the descent alone, of what fits together
 
-pub record DescentLengths (n sheet word c w vals us eqs : ℕ) : Type 0 where
+pub record Ready (n sheet word c w vals us eqs : ℕ) : Type 0 where
   pub small : n ≤ largest_n
   pub records : sheet ≡ 2 ^ n * record_bytes
   pub symbols : word ≡ 2 ^ n

@@ -7,18 +7,6 @@ mod leaf;
 mod limits;
 mod word;
 
-use bits::rows::Width;
-
-// What is asked: N = 2 to the n symbols, at most `most` unknowns, and rows of `words` words, the first `coeffs` of them
-// coefficients.
-#[derive(Drop)]
-pub struct Task {
-    pub n: usize,
-    pub most: usize,
-    pub coeffs: usize,
-    pub words: usize,
-}
-
 // How a descent ended.
 #[derive(Drop)]
 pub enum Descent {
@@ -30,41 +18,47 @@ pub enum Descent {
     Done { g: usize, m: usize },
 }
 
-// Decodes a word of N symbols under the rules of a sheet of N records, by halves. A symbol is known where `word` has 0 or 1, and
-// its row then stands in `vals`: any row of `words` words. It is erased where `word` has more.
-// A row has `words` words, at most 65536: `coeffs` words of coefficients, unknown k at bit k mod 64 of word k div 64, then the
-// constant at bit 0 of word `coeffs`, then words that ride along. The unknowns are the open free positions, numbered from the first.
+// Decodes a word of N = 2 to the n symbols under the rules of a sheet of N records, by halves. A symbol is known where `word`
+// has 0 or 1, and its row then stands in `vals`: any row of w words. It is erased where `word` has more.
+// A row has w words, at most 65536: c words of coefficients, unknown k at bit k mod 64 of word k div 64, then the constant at
+// bit 0 of word c, then words that ride along. The unknowns are the open free positions, numbered from the first.
 // Answers Done with the numbers of unknowns and of equations. Then `vals` holds the N symbols' rows, `us` the N rows of u, and
 // `eqs` the equations, each to be 0, followed by zeros.
 // Answers Over, and changes nothing, where there are more than `most` unknowns.
-// Answers Misfit, and changes nothing, unless n is at most limits::LARGEST_N, the sheet has N records, the word N symbols,
-// `coeffs` is below `words`, `most` is at most 64 `coeffs`, `vals` and `us` have N rows each, and `eqs` has at least as many.
+// Answers Misfit, and changes nothing, unless n is at most limits::LARGEST_N, the sheet has N records, the word N symbols, c is below w,
+// `most` is at most 64 c, `vals` and `us` have N w words each, and `eqs` has at least as many.
 pub fn descend(
+    n: usize,
     sheet: &[u8],
     word: &[u8],
-    t: Task,
+    most: usize,
+    c: usize,
+    w: usize,
     vals: &mut [u64],
     us: &mut [u64],
     eqs: &mut [u64],
 ) -> Descent
-    ensures { descended result vals.new us.new eqs.new
-        ≡ descending t.n sheet.now word.now t.most t.coeffs t.words
-        vals.old us.old eqs.old }
+    ensures { descended result vals.new us.new eqs.new ≡ descending n sheet.now word.now most c w vals.old us.old eqs.old }
 {
-    if !limits::fits(t, sheet.len(), word.len(), vals.len(), us.len(), eqs.len()) {
+    if !limits::fits(
+        n,
+        sheet.len(),
+        word.len(),
+        most,
+        c,
+        w,
+        vals.len(),
+        us.len(),
+        eqs.len(),
+    ) {
         return Descent::Misfit;
     }
-    let n = t.n;
     let g = counting::unknowns(n, sheet, word);
-    if t.most < g {
+    if most < g {
         return Descent::Over { g };
     }
     let mut marks: [u8; meaning::limits::POSITIONS] = [0; meaning::limits::POSITIONS];
     let size = word.len();
-    let width = Width {
-        coeffs: t.coeffs,
-        words: t.words,
-    };
-    let m = word::run(n, sheet, word, width, vals, &mut marks[..size], us, eqs);
+    let m = word::run(n, sheet, word, c, w, vals, &mut marks[..size], us, eqs);
     Descent::Done { g, m }
 }

@@ -2,7 +2,7 @@
 --     tail_length, attached                 bytes with their check bits behind them
 --     known, known-listed, not_listed       whether there is a check of length r
 --     dividing-is, -not, fed-tells          what `divides` answers
---     division-fits-..                      what `fits` tells
+--     fitting-..                            what `fits` tells
 --     appending-is, -not                    what `append` leaves
 use mathlib.Core.Path.{◌≡◌, refl, sym, ap, ap₂, ◌∙◌}
 use mathlib.Core.Logic.{◌⊎◌, inl, inr, ⊎_elim}
@@ -22,7 +22,7 @@ use Rattle.meaning.specs.Check.{poly, divides}
 use Rattle.meaning.specs.Payload.{remainder}
 use Rattle.meaning.specs.Answers.{isOne}
 use Rattle.bits.proofs.Parts.{from, back}
-use Rattle.division.specs.Division.{to_bits, Fed, listed, division_fits, dividing, appending}
+use Rattle.division.specs.Division.{to_bits, Fed, listed, fitting, dividing, appending}
 use Rattle.division.proofs.Division.{remainder_is, fed-zero}
 
 -- ---- bytes, copied, and the part of the buffer behind them
@@ -37,12 +37,10 @@ module _ (p out l : List ℕ) (r : ℕ) (e : l ≡ take (length p) p ++ drop (le
   pub tail_length : length (take (length l - length p) (drop (length p) l)) ≡ r
   tail_length = ap length (from l (length p)) ∙ length-drop (length p) l ∙ omega (arith, length_l)
 
-  pub attached : (b : List ℕ) (w : ℕ) → b ≡ map bit (to_bits (length (take (length l - length p) (drop (length p) l))) w)
-      → Fed r (map isOne p ++ replicate r false) w
+  pub attached : (b : List ℕ) (w : ℕ) → b ≡ map bit (to_bits (length (take (length l - length p) (drop (length p) l))) w) → Fed r (map isOne p ++ replicate r false) w
       → put_mid (length p) (length l - length p) l b ≡ p ++ map bit (remainder (poly r) (leads r ++ map isOne p))
   attached b w eb f =
-      let c : b ≡ map bit (remainder (poly r) (leads r ++ map isOne p)) =
-      eb ∙ ap (λ (k : ℕ). map bit (to_bits k w)) tail_length ∙ ap (map bit) (remainder_is r (map isOne p) w f) in
+      let c : b ≡ map bit (remainder (poly r) (leads r ++ map isOne p)) = eb ∙ ap (λ (k : ℕ). map bit (to_bits k w)) tail_length ∙ ap (map bit) (remainder_is r (map isOne p) w f) in
       back l b (length p) ∙ ap₂ {C = List ℕ} ◌++◌ (ap (take (length p)) copied ∙ take_at p (drop (length p) out) (length p) refl) c
 
 -- ---- whether there is a check of length r
@@ -79,37 +77,36 @@ fed-tells r l s h f = sym (dividing-is r l h ∙ fed-zero r (map isOne l) s f)
 
 -- ---- what `fits` tells
 
-pub division_fits_unlisted : (k r room : ℕ) → listed r ≡ false → false ≡ division_fits k r room
-unfolding division_fits
-division_fits_unlisted k r room h = rw h
+pub fitting_unlisted : (k r room : ℕ) → listed r ≡ false → false ≡ fitting k r room
+unfolding fitting
+fitting_unlisted k r room h = rw h
 
-pub division_fits_short : (k r room : ℕ) → listed r ≡ true → room < r → false ≡ division_fits k r room
-unfolding division_fits
-division_fits_short k r room h l = rw h (sym (ne_eqb room (k + r) (λ e. omega arith)))
+pub fitting_short : (k r room : ℕ) → listed r ≡ true → room < r → false ≡ fitting k r room
+unfolding fitting
+fitting_short k r room h l = rw h (sym (ne_eqb room (k + r) (λ e. omega arith)))
 
-pub division_fits-room : (k r room : ℕ) → listed r ≡ true → r ≤ room → eqb k (room - r) ≡ division_fits k r room
-unfolding division_fits
-division_fits-room k r room h l = rw h (go (eqb k (room - r)) refl)
+pub fitting-room : (k r room : ℕ) → listed r ≡ true → r ≤ room → eqb k (room - r) ≡ fitting k r room
+unfolding fitting
+fitting-room k r room h l = rw h (go (eqb k (room - r)) refl)
   where
     go : (b : Bool) → eqb k (room - r) ≡ b → b ≡ eqb room (k + r)
     go true q = let e = eqb-true k (room - r) q in sym (eq-eqb room (k + r) (omega arith))
     go false q = sym (ne_eqb room (k + r) (λ e. eqb-false k (room - r) q (omega arith)))
 
-pub division_fits-known : (k r room : ℕ) → division_fits k r room ≡ true → ((r ≡ 0) ⊎ ((r ≡ 6) ⊎ (r ≡ 11))) × (room ≡ k + r)
-unfolding division_fits
-division_fits-known k r room h = (known r (and_l _ _ h), eqb-true room (k + r) (and_r (listed r) _ h))
+pub fitting-known : (k r room : ℕ) → fitting k r room ≡ true → ((r ≡ 0) ⊎ ((r ≡ 6) ⊎ (r ≡ 11))) × (room ≡ k + r)
+unfolding fitting
+fitting-known k r room h = (known r (and_l _ _ h), eqb-true room (k + r) (and_r (listed r) _ h))
 
-pub division_fits-is : (k r room : ℕ) → (r ≡ 0) ⊎ ((r ≡ 6) ⊎ (r ≡ 11)) → room ≡ k + r → division_fits k r room ≡ true
-unfolding division_fits
-division_fits-is k r room h e = rw (known-listed r h) (eq-eqb room (k + r) e)
+pub fitting-is : (k r room : ℕ) → (r ≡ 0) ⊎ ((r ≡ 6) ⊎ (r ≡ 11)) → room ≡ k + r → fitting k r room ≡ true
+unfolding fitting
+fitting-is k r room h e = rw (known-listed r h) (eq-eqb room (k + r) e)
 
 -- ---- what `append` leaves
 
-pub appending-is : (r : ℕ) (l out : List ℕ) → division_fits (length l) r (length out) ≡ true
-    → appending r l out ≡ l ++ map bit (remainder (poly r) (leads r ++ map isOne l))
+pub appending-is : (r : ℕ) (l out : List ℕ) → fitting (length l) r (length out) ≡ true → appending r l out ≡ l ++ map bit (remainder (poly r) (leads r ++ map isOne l))
 unfolding appending
 appending-is r l out h = rw h
 
-pub appending-not : (r : ℕ) (l out : List ℕ) → division_fits (length l) r (length out) ≡ false → appending r l out ≡ out
+pub appending-not : (r : ℕ) (l out : List ℕ) → fitting (length l) r (length out) ≡ false → appending r l out ≡ out
 unfolding appending
 appending-not r l out h = rw h

@@ -41,8 +41,7 @@ to_bits_xor : (r a b : ℕ) → to_bits r (bit_xor a b) ≡ to_bits r a ⊞ to_b
 unfolding to_bits
 to_bits_xor zero a b = refl
 to_bits_xor (suc r) a b =
-    ap₂ {C = List Bool} ◌∷◌ (ap (λ (x : ℕ). eqb x 1) (bit_xor_lem a b r)
-    ∙ one_xor (bit_at a r) (bit_at b r) (mod-lt (a / 2 ^ r) (omega arith)) (mod-lt (b / 2 ^ r) (omega arith))) (to_bits_xor r a b)
+    ap₂ {C = List Bool} ◌∷◌ (ap (λ (x : ℕ). eqb x 1) (bit_xor_lem a b r) ∙ one_xor (bit_at a r) (bit_at b r) (mod-lt (a / 2 ^ r) (omega arith)) (mod-lt (b / 2 ^ r) (omega arith))) (to_bits_xor r a b)
 
 pub bit-small : (b : Bool) → bit b < 2
 bit-small true = omega arith
@@ -60,8 +59,7 @@ lowest s false = ne_eqb ((s * 2 + 0) % 2) 1 (λ e. omega arith)
 to_bits-put : (r s : ℕ) (b : Bool) → to_bits (suc r) (s * 2 + bit b) ≡ to_bits r s ++ (b ∷ [])
 unfolding to_bits
 to_bits-put zero s b = ap {B = List Bool} (λ x. x ∷ []) (ap (λ (x : ℕ). eqb (x % 2) 1) (div-one (s * 2 + bit b)) ∙ lowest s b)
-to_bits-put (suc r) s b =
-    ap₂ {C = List Bool} ◌∷◌ (ap (λ (x : ℕ). eqb x 1) (bit-suc (s * 2 + bit b) r ∙ ap (λ (x : ℕ). bit_at x r) (below s b))) (to_bits-put r s b)
+to_bits-put (suc r) s b = ap₂ {C = List Bool} ◌∷◌ (ap (λ (x : ℕ). eqb x 1) (bit-suc (s * 2 + bit b) r ∙ ap (λ (x : ℕ). bit_at x r) (below s b))) (to_bits-put r s b)
 
 -- ---- the polynomial as a word
 
@@ -73,8 +71,7 @@ pub record Divisor (r : ℕ) : Type 0 where
 pub divisor : (r : ℕ) → (r ≡ 0) ⊎ ((r ≡ 6) ⊎ (r ≡ 11)) → Divisor r
 unfolding poly_word to_bits poly
 divisor r = ⊎_elim (λ e. rw e (record { bits = refl; low = omega arith; high = omega arith }))
-    (⊎_elim (λ e. rw e (record { bits = refl; low = omega arith; high = omega arith }))
-    (λ e. rw e (record { bits = refl; low = omega arith; high = omega arith })))
+    (⊎_elim (λ e. rw e (record { bits = refl; low = omega arith; high = omega arith })) (λ e. rw e (record { bits = refl; low = omega arith; high = omega arith })))
 
 -- ---- one step, by whether a 1 goes out
 
@@ -92,8 +89,7 @@ module _ (r s : ℕ) (b : Bool) (d : Divisor r) (h : s < 2 ^ r) where
       ap (λ (x : ℕ). eqb (x % 2) 1) q
 
   -- the remainder so far, shifted, with what is subtracted
-  shifted : (o : Bool) → ((k : ℕ) → r ≡ suc k → eqb (bit_at s k) 1 ≡ o)
-      → shift (poly r) (to_bits r s) b ≡ to_bits r (s * 2 + bit b) ⊞ map (λ (x : Bool). o && x) (poly r)
+  shifted : (o : Bool) → ((k : ℕ) → r ≡ suc k → eqb (bit_at s k) 1 ≡ o) → shift (poly r) (to_bits r s) b ≡ to_bits r (s * 2 + bit b) ⊞ map (λ (x : Bool). o && x) (poly r)
   unfolding to_bits
   shifted o f = go r refl
     where
@@ -102,8 +98,7 @@ module _ (r s : ℕ) (b : Bool) (d : Divisor r) (h : s < 2 ^ r) where
       go (suc k) e =
           ap₂ ◌⊞◌ (sym (to_bits-put k s b)) (ap (λ (t : Bool). map (λ (x : Bool). t && x) (poly (suc k))) (f k e))
 
-  pub step-over : 2 ^ r ≤ s * 2 + bit b → (bit_xor (s * 2 + bit b) (poly_word r) < 2 ^ r)
-      × (to_bits r (bit_xor (s * 2 + bit b) (poly_word r)) ≡ shift (poly r) (to_bits r s) b)
+  pub step-over : 2 ^ r ≤ s * 2 + bit b → (bit_xor (s * 2 + bit b) (poly_word r) < 2 ^ r) × (to_bits r (bit_xor (s * 2 + bit b) (poly_word r)) ≡ shift (poly r) (to_bits r s) b)
   step-over l =
       let t : ℕ = s * 2 + bit b in
       let p : ℕ = poly_word r in
@@ -120,8 +115,7 @@ module _ (r s : ℕ) (b : Bool) (d : Divisor r) (h : s < 2 ^ r) where
   pub step_under : s * 2 + bit b < 2 ^ r → to_bits r (s * 2 + bit b) ≡ shift (poly r) (to_bits r s) b
   step_under l =
       let t : ℕ = s * 2 + bit b in
-      sym (shifted false (λ k q. top-zero k q l) ∙ ap (λ (g : List Bool). to_bits r t ⊞ g) (scale_none (poly r))
-      ∙ ⊞-none (to_bits r t) (length (poly r)) (length-to_bits r t ∙ sym (length-poly r)))
+      sym (shifted false (λ k q. top-zero k q l) ∙ ap (λ (g : List Bool). to_bits r t ⊞ g) (scale_none (poly r)) ∙ ⊞-none (to_bits r t) (length (poly r)) (length-to_bits r t ∙ sym (length-poly r)))
 
 -- ---- feeding the register
 
@@ -131,8 +125,7 @@ unfolding to_bits
 ones-bits zero = refl
 ones-bits (suc r) =
     let e : 2 ^ suc r - 1 ≡ (2 ^ r - 1) * 2 + 1 = omega (arith, pow-suc 2 r, pow_pos r) in
-    ap (to_bits (suc r)) e ∙ to_bits-put r (2 ^ r - 1) true ∙ ap (λ (l : List Bool). l ++ (true ∷ [])) (ones-bits r)
-    ∙ replicate-append-replicate r 1 true ∙ ap (λ (k : ℕ). replicate k true) (add-one r)
+    ap (to_bits (suc r)) e ∙ to_bits-put r (2 ^ r - 1) true ∙ ap (λ (l : List Bool). l ++ (true ∷ [])) (ones-bits r) ∙ replicate-append-replicate r 1 true ∙ ap (λ (k : ℕ). replicate k true) (add-one r)
 
 pub starts : (r limit : ℕ) → limit ≡ 2 ^ r → Fed r [] (limit - 1)
 unfolding leads
@@ -141,9 +134,7 @@ starts r limit e = rw e (record { small = omega (arith, pow_pos r); is = ones-bi
 pub more : (r : ℕ) (v : List Bool) (s t : ℕ) (b : Bool) → Fed r v s → t < 2 ^ r → to_bits r t ≡ shift (poly r) (to_bits r s) b → Fed r (v ++ (b ∷ [])) t
 more r v s t b f l e = record {
   small = l;
-  is =
-      e ∙ ap (λ (x : List Bool). shift (poly r) x b) f.is ∙ sym (rest_append (poly r) (replicate r false) (leads r ++ v) (b ∷ []))
-      ∙ ap (rest (poly r) (replicate r false)) (append_assoc (leads r) v (b ∷ []));
+  is = e ∙ ap (λ (x : List Bool). shift (poly r) x b) f.is ∙ sym (rest_append (poly r) (replicate r false) (leads r ++ v) (b ∷ [])) ∙ ap (rest (poly r) (replicate r false)) (append_assoc (leads r) v (b ∷ []));
 }
 
 -- the remainder is zero exactly when the word is 0
@@ -194,8 +185,7 @@ module _ (r start i s : ℕ) (d : Divisor r) (h : s < 2 ^ r) (f : Flushed r star
   put-false : (t : ℕ) → t < 2 ^ r → to_bits r t ≡ shift (poly r) (to_bits r s) false → Flushed r start (i + 1) t
   put-false t l e v q =
       let m = more r (v ++ replicate i false) s t false (f v q) l e in
-      subst (λ (w : List Bool). Fed r w t) (append_assoc v (replicate i false) (false ∷ [])
-      ∙ ap (λ (w : List Bool). v ++ w) (replicate-append-replicate i 1 false)) m
+      subst (λ (w : List Bool). Fed r w t) (append_assoc v (replicate i false) (false ∷ []) ∙ ap (λ (w : List Bool). v ++ w) (replicate-append-replicate i 1 false)) m
 
   even : s * 2 + 0 ≡ s * 2
   even = omega arith
@@ -212,12 +202,12 @@ module _ (r start i s : ℕ) (d : Divisor r) (h : s < 2 ^ r) (f : Flushed r star
 pub bits_at : (r s i : ℕ) → i < r → get_or (map bit (to_bits r s)) i 0 ≡ bit_at s (r - 1 - i)
 unfolding to_bits
 bits_at zero s i h = absurd (omega arith)
-bits_at (suc r) s zero h = bit-one (bit_at s r) (mod-lt (s / 2 ^ r) (omega arith)) ∙ ap (bit_at s) (omega arith)
+bits_at (suc r) s zero h = bit_one (bit_at s r) (mod-lt (s / 2 ^ r) (omega arith)) ∙ ap (bit_at s) (omega arith)
   where
-    bit-one : (x : ℕ) → x < 2 → bit (eqb x 1) ≡ x
-    bit-one zero q = refl
-    bit-one (suc zero) q = refl
-    bit-one (suc (suc x)) q = absurd (omega arith)
+    bit_one : (x : ℕ) → x < 2 → bit (eqb x 1) ≡ x
+    bit_one zero q = refl
+    bit_one (suc zero) q = refl
+    bit_one (suc (suc x)) q = absurd (omega arith)
 bits_at (suc r) s (suc i) h = bits_at r s i (omega arith) ∙ ap (bit_at s) (omega arith)
 
 -- the remainder of a payload after shifting by r

@@ -2,7 +2,7 @@
 --     to_bits r s      the r lowest bits of a word, highest first
 --     poly_word r      the check polynomial as a word, D^r included
 --     Fed r v s       s is the remainder of the check's sequence that ends in v
---     listed, division_fits     whether there is a check of length r, and room for it
+--     listed, fitting          whether there is a check of length r, and room for it
 --     dividing, appending      what `divides` and `append` promise
 use Rattle.std.specs.Prelude.{◌≡◌, ℕ, zero, suc, ◌+◌, ◌^◌, ◌<◌, Bool, false, ◌&&◌, ◌||◌, List, [], ◌∷◌, ◌++◌, map, length, replicate, eqb}
 use Rattle.bits.specs.Vectors.{bit, pick}
@@ -30,11 +30,11 @@ pub record Fed (r : ℕ) (v : List Bool) (s : ℕ) : Type 0 where
 unfoldable pub listed : ℕ → Bool
 listed r = eqb r 0 || eqb r 6 || eqb r 11
 
-unfoldable pub division_fits : ℕ → ℕ → ℕ → Bool
-division_fits len r room = listed r && eqb room (len + r)
+unfoldable pub fitting : ℕ → ℕ → ℕ → Bool
+fitting len r room = listed r && eqb room (len + r)
 
 unfoldable pub dividing : ℕ → List ℕ → Bool
 dividing r l = listed r && divides r (leads r ++ map isOne l)
 
 unfoldable pub appending : ℕ → List ℕ → List ℕ → List ℕ
-appending r l out = pick (division_fits (length l) r (length out)) (l ++ map bit (remainder (poly r) (leads r ++ map isOne l))) out
+appending r l out = pick (fitting (length l) r (length out)) (l ++ map bit (remainder (poly r) (leads r ++ map isOne l))) out

@@ -5,7 +5,7 @@ ghost use Rattle.meaning.specs.Answers.{isOne};
 ghost use Rattle.meaning.specs.Limits.{leads};
 ghost use Rattle.meaning.specs.Check.{poly};
 ghost use Rattle.meaning.specs.Payload.{remainder};
-ghost use Rattle.division.specs.Division.{poly_word, to_bits, Fed, listed, division_fits, dividing, appending};
+ghost use Rattle.division.specs.Division.{poly_word, to_bits, Fed, listed, fitting, dividing, appending};
 ghost use Rattle.bits.specs.Vectors.{bit};
 
 // The check polynomial of length r as a word, D^r included.
@@ -101,7 +101,7 @@ fn listed(r: usize) -> bool
 
 // Whether there is a check of length r, and `room` places are as many as `len` bits and r check bits take.
 fn fits(len: usize, r: usize, room: usize) -> bool
-    ensures { result ≡ division_fits len r room }
+    ensures { result ≡ fitting len r room }
 {
     if !listed(r) {
         return false;

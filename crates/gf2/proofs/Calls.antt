@@ -70,8 +70,7 @@ pub unfit : (c w : ℕ) (e r e₁ r₁ : List ℕ) (o : Outcome) → fits c w e 
 unfolding solved
 unfit c w e r e₁ r₁ o f h =
     let s = solve c (rows_of w e) (rows_of w r) in
-    let g : done e₁ r₁ o ≡ done e r Misfit =
-    h ∙ ap (λ (b : Bool). pick b (done (flatten s.eqs) (flatten s.rest) (Rank s.rank)) (done e r Misfit)) f in
+    let g : done e₁ r₁ o ≡ done e r Misfit = h ∙ ap (λ (b : Bool). pick b (done (flatten s.eqs) (flatten s.rest) (Rank s.rank)) (done e r Misfit)) f in
     (ap (λ (d : Done). d.eqs) g, ap (λ (d : Done). d.rest) g, ap (λ (d : Done). d.out) g)
 
 -- what a call leaves of slices that fit

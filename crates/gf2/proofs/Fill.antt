@@ -31,8 +31,7 @@ unfolding owner
 owner-some c [] b x h = let z : ◌≡◌ {A = ℕ} 0 1 = cc in absurd (omega arith)
 owner-some c (y ∷ e) b x h = go (eqb (lead c y) (suc b)) refl (owner-some c e b x) h
   where
-    go : (s : Bool) → eqb (lead c y) (suc b) ≡ s → (owner c e b ≡ some x → (k : ℕ) × (k < length e) × (at e k ≡ x) × (lead c x ≡ suc b))
-        → pick s (some y) (owner c e b) ≡ some x
+    go : (s : Bool) → eqb (lead c y) (suc b) ≡ s → (owner c e b ≡ some x → (k : ℕ) × (k < length e) × (at e k ≡ x) × (lead c x ≡ suc b)) → pick s (some y) (owner c e b) ≡ some x
         → (k : ℕ) × (k < suc (length e)) × (at (y ∷ e) k ≡ x) × (lead c x ≡ suc b)
     go true q ih m = let p : y ≡ x = cc in (0, omega arith, p, rw p at (eqb-true (lead c y) (suc b) q))
     go false q ih m = let t = ih m in (suc t.0, (let l = t.1 in omega arith), t.2, t.3)
@@ -42,8 +41,7 @@ unfolding owner
 owner-none c [] b h k l m = omega arith
 owner-none c (y ∷ e) b h k l m = go (eqb (lead c y) (suc b)) refl (owner-none c e b) h k l m
   where
-    go : (s : Bool) → eqb (lead c y) (suc b) ≡ s → (owner c e b ≡ none → (k : ℕ) → k < length e → lead c (at e k) ≡ suc b → ⊥)
-        → pick s (some y) (owner c e b) ≡ none
+    go : (s : Bool) → eqb (lead c y) (suc b) ≡ s → (owner c e b ≡ none → (k : ℕ) → k < length e → lead c (at e k) ≡ suc b → ⊥) → pick s (some y) (owner c e b) ≡ none
         → (k : ℕ) → k < suc (length e) → lead c (at (y ∷ e) k) ≡ suc b → ⊥
     go true q ih v k l m = let z : ◌≡◌ {A = ℕ} 0 1 = cc in omega arith
     go false q ih v zero l m = not-both (eq-eqb (lead c y) (suc b) m) q
@@ -71,17 +69,14 @@ keeps c κ e acc [] = true
 keeps c κ e acc (t ∷ z) = keep κ acc (owner c e (length acc)) t && keeps c κ e (acc ++ (t ∷ [])) z
 
 module _ (c : ℕ) (κ : Row → Bool) (e : List Row) where
-  keeps-at : (acc z : List Bool) → keeps c κ e acc z ≡ true → (k : ℕ) → k < length z
-      → keep κ (acc ++ take k z) (owner c e (length (acc ++ take k z))) (get_or z k false) ≡ true
+  keeps-at : (acc z : List Bool) → keeps c κ e acc z ≡ true → (k : ℕ) → k < length z → keep κ (acc ++ take k z) (owner c e (length (acc ++ take k z))) (get_or z k false) ≡ true
   unfolding keeps
   keeps-at acc [] h k l = absurd (omega arith)
   keeps-at acc (t ∷ z) h zero l = rw (append-nil acc) (and_l (keep κ acc (owner c e (length acc)) t) (keeps c κ e (acc ++ (t ∷ [])) z) h)
   keeps-at acc (t ∷ z) h (suc k) l =
-      rw (append_snoc acc t (take k z)) at (keeps-at (acc ++ (t ∷ [])) z
-      (and_r (keep κ acc (owner c e (length acc)) t) (keeps c κ e (acc ++ (t ∷ [])) z) h) k (omega arith))
+      rw (append_snoc acc t (take k z)) at (keeps-at (acc ++ (t ∷ [])) z (and_r (keep κ acc (owner c e (length acc)) t) (keeps c κ e (acc ++ (t ∷ [])) z) h) k (omega arith))
 
-  at-keeps : (acc z : List Bool) → ((k : ℕ) → k < length z → keep κ (acc ++ take k z) (owner c e (length (acc ++ take k z))) (get_or z k false) ≡ true)
-      → keeps c κ e acc z ≡ true
+  at-keeps : (acc z : List Bool) → ((k : ℕ) → k < length z → keep κ (acc ++ take k z) (owner c e (length (acc ++ take k z))) (get_or z k false) ≡ true) → keeps c κ e acc z ≡ true
   unfolding keeps
   at-keeps acc [] h = refl
   at-keeps acc (t ∷ z) h =
@@ -109,20 +104,17 @@ module _ (c : ℕ) (κ : Row → Bool) (e : List Row) where
   fill-keeps acc [] = refl
   fill-keeps acc (t ∷ z) =
       let u = forced κ acc (owner c e (length acc)) t in
-      and_i (keep κ acc (owner c e (length acc)) u) (keeps c κ e (acc ++ (u ∷ [])) (fill c κ e (acc ++ (u ∷ [])) z))
-      (forced-keep acc (owner c e (length acc)) t) (fill-keeps (acc ++ (u ∷ [])) z)
+      and_i (keep κ acc (owner c e (length acc)) u) (keeps c κ e (acc ++ (u ∷ [])) (fill c κ e (acc ++ (u ∷ [])) z)) (forced-keep acc (owner c e (length acc)) t) (fill-keeps (acc ++ (u ∷ [])) z)
 
   keeps-fill : (acc z : List Bool) → keeps c κ e acc z ≡ true → fill c κ e acc z ≡ z
   unfolding fill keeps
   keeps-fill acc [] h = refl
   keeps-fill acc (t ∷ z) h =
       let p = keep-forced acc (owner c e (length acc)) t (and_l (keep κ acc (owner c e (length acc)) t) (keeps c κ e (acc ++ (t ∷ [])) z) h) in
-      rw p (ap {B = List Bool} (λ r. t ∷ r) (keeps-fill (acc ++ (t ∷ [])) z
-      (and_r (keep κ acc (owner c e (length acc)) t) (keeps c κ e (acc ++ (t ∷ [])) z) h)))
+      rw p (ap {B = List Bool} (λ r. t ∷ r) (keeps-fill (acc ++ (t ∷ [])) z (and_r (keep κ acc (owner c e (length acc)) t) (keeps c κ e (acc ++ (t ∷ [])) z) h)))
 
   -- only the free unknowns matter
-  fill_ext : (acc u v : List Bool) → length u ≡ length v → ((k : ℕ) → owner c e (length acc + k) ≡ none → get_or u k false ≡ get_or v k false)
-      → fill c κ e acc u ≡ fill c κ e acc v
+  fill_ext : (acc u v : List Bool) → length u ≡ length v → ((k : ℕ) → owner c e (length acc + k) ≡ none → get_or u k false ≡ get_or v k false) → fill c κ e acc u ≡ fill c κ e acc v
   unfolding fill
   fill_ext acc [] [] n h = refl
   fill_ext acc [] (t ∷ v) n h = absurd (omega arith)
@@ -157,12 +149,9 @@ module _ (c : ℕ) (κ : Row → Bool) (e : List Row) where
   first-keeps : (acc z : List Bool) → keeps c κ e acc z ≡ true → before z (fill c κ e acc (replicate (length z) false)) ≡ false
   unfolding fill keeps
   first-keeps acc [] h = refl
-  first-keeps acc (t ∷ z) h =
-      go (owner c e (length acc)) t (and_l (keep κ acc (owner c e (length acc)) t) (keeps c κ e (acc ++ (t ∷ [])) z) h)
-      (first-keeps (acc ++ (t ∷ [])) z (and_r (keep κ acc (owner c e (length acc)) t) (keeps c κ e (acc ++ (t ∷ [])) z) h))
+  first-keeps acc (t ∷ z) h = go (owner c e (length acc)) t (and_l (keep κ acc (owner c e (length acc)) t) (keeps c κ e (acc ++ (t ∷ [])) z) h) (first-keeps (acc ++ (t ∷ [])) z (and_r (keep κ acc (owner c e (length acc)) t) (keeps c κ e (acc ++ (t ∷ [])) z) h))
     where
-      same : (s : Bool) → before z (fill c κ e (acc ++ (s ∷ [])) (replicate (length z) false)) ≡ false → (u : Bool)
-          → u ≡ s → before (s ∷ z) (u ∷ fill c κ e (acc ++ (u ∷ [])) (replicate (length z) false)) ≡ false
+      same : (s : Bool) → before z (fill c κ e (acc ++ (s ∷ [])) (replicate (length z) false)) ≡ false → (u : Bool) → u ≡ s → before (s ∷ z) (u ∷ fill c κ e (acc ++ (u ∷ [])) (replicate (length z) false)) ≡ false
       same true m true q = m
       same true m false q = absurd (false≢true q)
       same false m true q = absurd (true≢false q)
@@ -177,12 +166,9 @@ module _ (c : ℕ) (κ : Row → Bool) (e : List Row) where
   last-keeps : (acc z : List Bool) → keeps c κ e acc z ≡ true → before (fill c κ e acc (replicate (length z) true)) z ≡ false
   unfolding fill keeps
   last-keeps acc [] h = refl
-  last-keeps acc (t ∷ z) h =
-      go (owner c e (length acc)) t (and_l (keep κ acc (owner c e (length acc)) t) (keeps c κ e (acc ++ (t ∷ [])) z) h)
-      (last-keeps (acc ++ (t ∷ [])) z (and_r (keep κ acc (owner c e (length acc)) t) (keeps c κ e (acc ++ (t ∷ [])) z) h))
+  last-keeps acc (t ∷ z) h = go (owner c e (length acc)) t (and_l (keep κ acc (owner c e (length acc)) t) (keeps c κ e (acc ++ (t ∷ [])) z) h) (last-keeps (acc ++ (t ∷ [])) z (and_r (keep κ acc (owner c e (length acc)) t) (keeps c κ e (acc ++ (t ∷ [])) z) h))
     where
-      same : (s : Bool) → before (fill c κ e (acc ++ (s ∷ [])) (replicate (length z) true)) z ≡ false → (u : Bool)
-          → u ≡ s → before (u ∷ fill c κ e (acc ++ (u ∷ [])) (replicate (length z) true)) (s ∷ z) ≡ false
+      same : (s : Bool) → before (fill c κ e (acc ++ (s ∷ [])) (replicate (length z) true)) z ≡ false → (u : Bool) → u ≡ s → before (u ∷ fill c κ e (acc ++ (u ∷ [])) (replicate (length z) true)) (s ∷ z) ≡ false
       same true m true q = m
       same true m false q = absurd (false≢true q)
       same false m true q = absurd (true≢false q)
@@ -195,8 +181,7 @@ module _ (c : ℕ) (κ : Row → Bool) (e : List Row) where
       go (some x) s k m = same s m (dot 0 x acc ⊕ κ x) (keep-forced acc (some x) s k)
 
   -- a row with no pivot has the same sum
-  pub dot-fill : (acc z : List Bool) (x : Row) → ((t : ℕ) (y : Row) → owner c e t ≡ some y → has t x ≡ false)
-      → dot (length acc) x (fill c κ e acc z) ≡ dot (length acc) x z
+  pub dot-fill : (acc z : List Bool) (x : Row) → ((t : ℕ) (y : Row) → owner c e t ≡ some y → has t x ≡ false) → dot (length acc) x (fill c κ e acc z) ≡ dot (length acc) x z
   unfolding fill dot
   dot-fill acc [] x h = refl
   dot-fill acc (t ∷ z) x h =
@@ -218,16 +203,14 @@ module _ (c : ℕ) (κ : Row → Bool) (e : List Row) where
   frees-suc : (b n : ℕ) → frees b (suc n) ≡ bit (free c e b) + frees (suc b) n
   frees-suc b n =
       tally_first (λ (k : ℕ). free c e (b + k)) n
-      ∙ ap₂ (λ (u v : ℕ). bit (free c e u) + v) (add-zero b)
-      (tally_ext (λ (k : ℕ). free c e (b + suc k)) (λ (k : ℕ). free c e (suc b + k)) n (λ k l. ap (free c e) (omega arith)))
+      ∙ ap₂ (λ (u v : ℕ). bit (free c e u) + v) (add-zero b) (tally_ext (λ (k : ℕ). free c e (b + suc k)) (λ (k : ℕ). free c e (suc b + k)) n (λ k l. ap (free c e) (omega arith)))
 
   snoc_length : (acc : List Bool) (t : Bool) → length (acc ++ (t ∷ [])) ≡ suc (length acc)
   snoc_length acc t = length-append acc (t ∷ []) ∙ omega arith
 
   -- both, or one of the two
   halves : (acc : List Bool) (o : Option Row) (p q : List Bool → Bool) (n m : ℕ) → count p (all_bits n) ≡ 2 ^ m → count q (all_bits n) ≡ 2 ^ m
-      → count (λ (v : List Bool). keep κ acc o false && p v) (all_bits n) + count (λ (v : List Bool). keep κ acc o true && q v) (all_bits n)
-      ≡ 2 ^ (bit (is_none o) + m)
+      → count (λ (v : List Bool). keep κ acc o false && p v) (all_bits n) + count (λ (v : List Bool). keep κ acc o true && q v) (all_bits n) ≡ 2 ^ (bit (is_none o) + m)
   halves acc none p q n m f t = let s : 1 + m ≡ suc m = omega arith in rw (f, t, s) (omega arith)
   halves acc (some x) p q n m f t = go (dot 0 x acc ⊕ κ x)
     where
@@ -267,8 +250,7 @@ module _ (c : ℕ) (κ : Row → Bool) (e : List Row) (D : Distinct c e) (z : Li
   len_take b l = length-take-le b z (omega arith)
 
   solves-consistent : solves κ e z ≡ true → consistent c κ e ≡ true
-  solves-consistent h =
-      at_all (λ (x : Row). led c x || not (κ x)) [] e (λ k l. go (at e k) (lead c (at e k)) refl (all-at (λ (x : Row). not (value κ z x)) [] e h k l))
+  solves-consistent h = at_all (λ (x : Row). led c x || not (κ x)) [] e (λ k l. go (at e k) (lead c (at e k)) refl (all-at (λ (x : Row). not (value κ z x)) [] e h k l))
     where
       go : (x : Row) (n : ℕ) → lead c x ≡ n → not (value κ z x) ≡ true → led c x || not (κ x) ≡ true
       go x zero q m = rw (led-none x q) (rw (value_none x q) at m)
@@ -284,8 +266,7 @@ module _ (c : ℕ) (κ : Row → Bool) (e : List Row) (D : Distinct c e) (z : Li
           rw (value-lead x k m l) at (rw a at (all-at (λ (y : Row). not (value κ z y)) [] e h j lj))
 
   keeps-solves : consistent c κ e ≡ true → keeps c κ e [] z ≡ true → solves κ e z ≡ true
-  keeps-solves hc hk =
-      at_all (λ (x : Row). not (value κ z x)) [] e (λ k l. go k l (lead c (at e k)) refl (all-at (λ (x : Row). led c x || not (κ x)) [] e hc k l))
+  keeps-solves hc hk = at_all (λ (x : Row). not (value κ z x)) [] e (λ k l. go k l (lead c (at e k)) refl (all-at (λ (x : Row). led c x || not (κ x)) [] e hc k l))
     where
       go : (k : ℕ) → k < length e → (n : ℕ) → lead c (at e k) ≡ n → led c (at e k) || not (κ (at e k)) ≡ true → not (value κ z (at e k)) ≡ true
       go k l zero q m = rw (value_none (at e k) q) (rw (led-none (at e k) q) at m)
@@ -318,8 +299,7 @@ owned-count c [] g D B = tally_false g
 owned-count c (x ∷ e) g D B =
     tally_ext (λ (b : ℕ). not (free c (x ∷ e) b)) (λ (b : ℕ). eqb (lead c x) (suc b) || not (free c e b)) g (λ b l. owned-cons c x e b)
     ∙ tally_or (λ (b : ℕ). eqb (lead c x) (suc b)) (λ (b : ℕ). not (free c e b)) g (λ b l q. apart b (eqb-true (lead c x) (suc b) q) (owner c e b) refl)
-    ∙ ap₂ ◌+◌ (tally_at (lead c x) g (B 0 (omega arith)))
-    (owned-count c e g (λ j k b lj lk p q. let w = D (suc j) (suc k) b (omega arith) (omega arith) p q in omega arith) (λ k l. B (suc k) (omega arith)))
+    ∙ ap₂ ◌+◌ (tally_at (lead c x) g (B 0 (omega arith))) (owned-count c e g (λ j k b lj lk p q. let w = D (suc j) (suc k) b (omega arith) (omega arith) p q in omega arith) (λ k l. B (suc k) (omega arith)))
   where
     apart : (b : ℕ) → lead c x ≡ suc b → (o : Option Row) → owner c e b ≡ o → not (is_none o) ≡ false
     apart b q none m = refl
@@ -338,8 +318,7 @@ module _ (c : ℕ) (κ : Row → Bool) (e : List Row) (g : ℕ) (hg : g ≤ 64 *
 
   -- in a consistent one any choice of the free unknowns is completed to a solution
   pub is-solved : consistent c κ e ≡ true → (z : List Bool) → length z ≡ g → solves κ e (completed c κ e z) ≡ true
-  is-solved h z n =
-      is (completed c κ e z) (length-fill c κ e [] z ∙ n) ∙ and_i (consistent c κ e) (keeps c κ e [] (completed c κ e z)) h (fill-keeps c κ e [] z)
+  is-solved h z n = is (completed c κ e z) (length-fill c κ e [] z ∙ n) ∙ and_i (consistent c κ e) (keeps c κ e [] (completed c κ e z)) h (fill-keeps c κ e [] z)
 
   -- and every solution is the completion of itself
   pub is-completed : (z : List Bool) → length z ≡ g → solves κ e z ≡ true → completed c κ e z ≡ z
@@ -370,7 +349,5 @@ module _ (c : ℕ) (κ : Row → Bool) (e : List Row) (g : ℕ) (hg : g ≤ 64 *
   is-counted = count_bits (solves κ e) (λ (z : List Bool). consistent c κ e && keeps c κ e [] z) g is ∙ go (consistent c κ e)
     where
       go : (b : Bool) → count (λ (z : List Bool). b && keeps c κ e [] z) (all_bits g) ≡ pick b (2 ^ (g - count (led c) e)) 0
-      go true =
-          count-keeps c κ e g []
-          ∙ ap (λ (m : ℕ). 2 ^ m) (tally_ext (λ (k : ℕ). free c e (0 + k)) (free c e) g (λ k l. ap (free c e) (zero-add k)) ∙ free-count)
+      go true = count-keeps c κ e g [] ∙ ap (λ (m : ℕ). 2 ^ m) (tally_ext (λ (k : ℕ). free c e (0 + k)) (free c e) g (λ k l. ap (free c e) (zero-add k)) ∙ free-count)
       go false = count_none (all_bits g)

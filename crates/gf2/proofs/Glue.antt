@@ -48,8 +48,7 @@ unfolding over
 over_append w zero f p t h = refl
 over_append w (suc n) f p t h =
     let q : w ≤ length p = omega arith in
-    rw (take-append-le w p t q, drop-append-le w p t q, over_append w n f (drop w p) t (tail_len w n p h))
-    (sym (append_assoc (f (take w p)) (over w n f (drop w p)) t))
+    rw (take-append-le w p t q, drop-append-le w p t q, over_append w n f (drop w p) t (tail_len w n p h)) (sym (append_assoc (f (take w p)) (over w n f (drop w p)) t))
 
 length_over : (w n : ℕ) (f : Row → Row) (l : List ℕ) → Keeps w f → length l ≡ n * w → length (over w n f l) ≡ n * w
 unfolding over
@@ -162,15 +161,13 @@ step-some l l₁ l₂ r r₁ m q i c w n k j hl hr hi cw e nz fit hj e₁ e₂ e
     let kf : Keeps w f = clear-keeps w (k - 1) j x (length-row w m l hl i hi) in
     let (jl, le) = lead-some l (i * w) c w cw k j e nz fit hj in
     let g₁ : part w (i * w) l₁ ≡ x = ap (λ (y : List ℕ). part w (i * w) y) e₁ ∙ first-row l m i w hl hi f kf in
-    let s₂ : l₂ ≡ second l m i w hl hi f kf =
-    e₂ ∙ ap₂ (λ (y : List ℕ) (z : Row). take (i * w + w) y ++ over w (m - i - 1) (clear_at (k - 1) j z) (drop (i * w + w) y)) e₁ g₁ in
+    let s₂ : l₂ ≡ second l m i w hl hi f kf = e₂ ∙ ap₂ (λ (y : List ℕ) (z : Row). take (i * w + w) y ++ over w (m - i - 1) (clear_at (k - 1) j z) (drop (i * w + w) y)) e₁ g₁ in
     let g₂ : part w (i * w) l₂ ≡ x = ap (λ (y : List ℕ). part w (i * w) y) s₂ ∙ second_row l m i w hl hi f kf in
     let a : rows w m l₂ ≡ set (map f (rows w m l)) i x = ap (rows w m) s₂ ∙ second_rows l m i w hl hi f kf in
     let b : rows w q r₁ ≡ map f (rows w q r) = ap (rows w q) (e₃ ∙ ap (λ (z : Row). over w q (clear_at (k - 1) j z) r) g₂) ∙ rows-over w q f r kf hr in
     let ff : f ≡ clear (64 * (k - 1) + j) x = ap₂ (λ (y z : ℕ). clear_at y z x) (sym (word_of (k - 1) j jl)) (sym (place_of (k - 1) j jl)) in
     rw (tab-at m (row w l) i [] hi, le, tab-at m (row w l) i [] hi)
-    (ap₂ (λ (y z : List Row). sys y z (n + 1)) (a ∙ ap (λ (g : Row → Row). set (map g (rows w m l)) i x) ff)
-    (b ∙ ap (λ (g : Row → Row). map g (rows w q r)) ff))
+    (ap₂ (λ (y z : List Row). sys y z (n + 1)) (a ∙ ap (λ (g : Row → Row). set (map g (rows w m l)) i x) ff) (b ∙ ap (λ (g : Row → Row). map g (rows w q r)) ff))
 
 -- ---- all steps
 

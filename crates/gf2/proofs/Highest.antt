@@ -57,8 +57,7 @@ module _ (l : List ℕ) (at c w : ℕ) (cw : c ≤ w) where
   none_above : (b : ℕ) → b < 64 * c → top (used l at) c ≤ b / 64 → has b x ≡ false
   none_above b h u =
       let q : b / 64 < c = omega arith in
-      let z : get_or l (at + b / 64) 0 ≡ 0 =
-      eqb-true (get_or l (at + b / 64) 0) 0 (not-false (eqb (get_or l (at + b / 64) 0) 0) (top_above (used l at) c (b / 64) u q)) in
+      let z : get_or l (at + b / 64) 0 ≡ 0 = eqb-true (get_or l (at + b / 64) 0) 0 (not-false (eqb (get_or l (at + b / 64) 0) 0) (top_above (used l at) c (b / 64) u q)) in
       has_at_word (b / 64) (b % 64) x 0 (get_or_part l at w (b / 64) (omega arith) ∙ z) ∙ zero_bit (b % 64)
 
   pub lead-none : top (used l at) c ≡ 0 → lead c x ≡ 0
@@ -69,8 +68,7 @@ module _ (l : List ℕ) (at c w : ℕ) (cw : c ≤ w) where
   last-pos k e n =
       let p : at + k - 1 ≡ at + (k - 1) = omega arith in
       let d : top (used l at) c ≡ suc (k - 1) = omega arith in
-      let nz : get_or l (at + k - 1) 0 ≡ 0 → ⊥ =
-      rw (← p) at (eqb-false (get_or l (at + (k - 1)) 0) 0 (not-true (eqb (get_or l (at + (k - 1)) 0) 0) (top-holds (used l at) c (k - 1) d))) in
+      let nz : get_or l (at + k - 1) 0 ≡ 0 → ⊥ = rw (← p) at (eqb-false (get_or l (at + (k - 1)) 0) 0 (not-true (eqb (get_or l (at + (k - 1)) 0) 0) (top-holds (used l at) c (k - 1) d))) in
       omega arith
 
   pub last-zeros : (k : ℕ) → top (used l at) c ≡ k → (k ≡ 0 → ⊥) → get_or l (at + k - 1) 0 < 2 ^ 64 → count_leading_zeros 64 (get_or l (at + k - 1) 0) ≤ 63

@@ -90,6 +90,5 @@ lead-⊻_le c g x y hx hy = go (lead c (x ⊻ y)) refl
     go zero q = omega arith
     go (suc b) q =
         let l = lead_le c (x ⊻ y) in
-        ⊎_elim (λ (w : g ≤ b). absurd (not-both (lead-holds c (x ⊻ y) b q)
-        (has-⊻ b x y ∙ ap₂ ◌⊕◌ (lead_above c x b (omega arith) (omega arith)) (lead_above c y b (omega arith) (omega arith)))))
+        ⊎_elim (λ (w : g ≤ b). absurd (not-both (lead-holds c (x ⊻ y) b q) (has-⊻ b x y ∙ ap₂ ◌⊕◌ (lead_above c x b (omega arith) (omega arith)) (lead_above c y b (omega arith) (omega arith)))))
         (λ (w : b < g). w) (le_or_lt g b)

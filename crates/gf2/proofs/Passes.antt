@@ -114,11 +114,9 @@ module _ (c : ℕ) (e r : List Row) (P : Row → Type 0) (closed : (x y : Row) �
       (λ i b s z h q k. (
         (λ j l. ⊎_elim
             (λ (w : j ≡ i). rw (ap (at (pass (suc b) i s).eqs) w ∙ pass_same b i s (omega arith)) (k.0 i h))
-            (λ (w : j ≡ i → ⊥). rw (pass_other b i s j (omega arith) w)
-            (clear-either P b (at s.eqs i) (at s.eqs j) (k.0 j l) (closed (at s.eqs j) (at s.eqs i) (k.0 j l) (k.0 i h))))
+            (λ (w : j ≡ i → ⊥). rw (pass_other b i s j (omega arith) w) (clear-either P b (at s.eqs i) (at s.eqs j) (k.0 j l) (closed (at s.eqs j) (at s.eqs i) (k.0 j l) (k.0 i h))))
             (eq_or_ne j i)),
-        (λ j l. rw (pass-rest b i s j (omega arith))
-            (clear-either (Q j) b (at s.eqs i) (at s.rest j) (k.1 j l) (moved j (at s.rest j) (at s.eqs i) (k.1 j l) (k.0 i h)))),
+        (λ j l. rw (pass-rest b i s j (omega arith)) (clear-either (Q j) b (at s.eqs i) (at s.rest j) (k.1 j l) (moved j (at s.rest j) (at s.eqs i) (k.1 j l) (k.0 i h)))),
       ))
       (he, hr) in
       let z = o.0 in
@@ -133,8 +131,7 @@ module _ (c : ℕ) (e r : List Row) (P : Row → Type 0) (closed : (x y : Row) �
       let p : P (at s.eqs i) = rw (← (pass_same b i s (omega arith))) (a i h) in
       k (λ j l. ⊎_elim
       (λ (w : j ≡ i). rw w p)
-      (λ (w : j ≡ i → ⊥). either-clear P b (at s.eqs i) (at s.eqs j)
-      (λ (m : P (at s.eqs j ⊻ at s.eqs i)). cancel (at s.eqs j) (at s.eqs i) m p) (rw (pass_other b i s j (omega arith) w) at (a j l)))
+      (λ (w : j ≡ i → ⊥). either-clear P b (at s.eqs i) (at s.eqs j) (λ (m : P (at s.eqs j ⊻ at s.eqs i)). cancel (at s.eqs j) (at s.eqs i) m p) (rw (pass_other b i s j (omega arith) w) at (a j l)))
       (eq_or_ne j i)))
       (λ a. a) in
       let z = o.0 in

@@ -24,17 +24,14 @@ unfolding sum_of
 length-sum_of w [] f h = length-replicate w 0
 length-sum_of w (x ∷ e) f (n, h) = go (f 0) (length-sum_of w e (λ (k : ℕ). f (suc k)) h)
   where
-    go : (b : Bool) → length (sum_of w e (λ (k : ℕ). f (suc k))) ≡ w
-        → length (pick b (x ⊻ sum_of w e (λ (k : ℕ). f (suc k))) (sum_of w e (λ (k : ℕ). f (suc k)))) ≡ w
+    go : (b : Bool) → length (sum_of w e (λ (k : ℕ). f (suc k))) ≡ w → length (pick b (x ⊻ sum_of w e (λ (k : ℕ). f (suc k))) (sum_of w e (λ (k : ℕ). f (suc k)))) ≡ w
     go true q = length-⊻ x (sum_of w e (λ (k : ℕ). f (suc k))) w n q
     go false q = q
 
 sum_of_ext : (w : ℕ) (e : List Row) (f g : ℕ → Bool) → ((k : ℕ) → k < length e → f k ≡ g k) → sum_of w e f ≡ sum_of w e g
 unfolding sum_of
 sum_of_ext w [] f g h = refl
-sum_of_ext w (x ∷ e) f g h =
-    ap₂ (λ (b : Bool) (s : Row). pick b (x ⊻ s) s) (h 0 (omega arith))
-    (sum_of_ext w e (λ (k : ℕ). f (suc k)) (λ (k : ℕ). g (suc k)) (λ k l. h (suc k) (omega arith)))
+sum_of_ext w (x ∷ e) f g h = ap₂ (λ (b : Bool) (s : Row). pick b (x ⊻ s) s) (h 0 (omega arith)) (sum_of_ext w e (λ (k : ℕ). f (suc k)) (λ (k : ℕ). g (suc k)) (λ k l. h (suc k) (omega arith)))
 
 sum_of-none : (w : ℕ) (e : List Row) → sum_of w e (λ (k : ℕ). false) ≡ nought_row w
 unfolding sum_of
@@ -58,14 +55,14 @@ sum_of-⊻ w (x ∷ e) f g (n, h) =
     go false false s t u q m = q
 
 -- one row alone
-sum_of-one : (w : ℕ) (e : List Row) (i : ℕ) → Wide w e → i < length e → sum_of w e (eqb i) ≡ at e i
+sum_of_one : (w : ℕ) (e : List Row) (i : ℕ) → Wide w e → i < length e → sum_of w e (eqb i) ≡ at e i
 unfolding sum_of
-sum_of-one w [] i h l = absurd (omega arith)
-sum_of-one w (x ∷ e) zero (n, h) l =
+sum_of_one w [] i h l = absurd (omega arith)
+sum_of_one w (x ∷ e) zero (n, h) l =
     ap (λ (s : Row). x ⊻ s) (sum_of_ext w e (λ (k : ℕ). eqb 0 (suc k)) (λ (k : ℕ). false) (λ k m. eqb-zero-suc k) ∙ sum_of-none w e)
     ∙ ⊻-comm x (nought_row w) ∙ nought-⊻ w x n
-sum_of-one w (x ∷ e) (suc i) (n, h) l =
-    rw (eqb-suc-zero i) (sum_of_ext w e (λ (k : ℕ). eqb (suc i) (suc k)) (eqb i) (λ k m. eqb-suc-suc i k) ∙ sum_of-one w e i h (omega arith))
+sum_of_one w (x ∷ e) (suc i) (n, h) l =
+    rw (eqb-suc-zero i) (sum_of_ext w e (λ (k : ℕ). eqb (suc i) (suc k)) (eqb i) (λ k m. eqb-suc-suc i k) ∙ sum_of_one w e i h (omega arith))
 
 -- ---- the law
 
@@ -77,12 +74,11 @@ module _ (c w o : ℕ) (e r : List Row) (we : Wide w e)
   made_add : (x y : Row) → Made x → Made y → Made (x ⊻ y)
   made_add x y (lx, p) (ly, q) = (
     length-⊻ x y w lx ly,
-    ap₂ ◌⊻◌ p q ∙ sum_of-⊻ w e (marks o x) (marks o y) we
-        ∙ sum_of_ext w e (λ (k : ℕ). marks o x k ⊕ marks o y k) (marks o (x ⊻ y)) (λ k l. sym (has-⊻ (o + k) x y)),
+    ap₂ ◌⊻◌ p q ∙ sum_of-⊻ w e (marks o x) (marks o y) we ∙ sum_of_ext w e (λ (k : ℕ). marks o x k ⊕ marks o y k) (marks o (x ⊻ y)) (λ k l. sym (has-⊻ (o + k) x y)),
   )
 
   given : Each Made e
-  given i l = (wide_at_lem w e we i l, sym (sum_of_ext w e (marks o (at e i)) (eqb i) (λ k m. ones i k l m) ∙ sum_of-one w e i we l))
+  given i l = (wide_at_lem w e we i l, sym (sum_of_ext w e (marks o (at e i)) (eqb i) (λ k m. ones i k l m) ∙ sum_of_one w e i we l))
 
   -- each equation after is the sum of those given that its bits name
   pub eqs_made : (i : ℕ) → i < length (solve c e r).eqs → at (solve c e r).eqs i ≡ sum_of w e (marks o (at (solve c e r).eqs i))
@@ -96,8 +92,7 @@ module _ (c w o : ℕ) (e r : List Row) (we : Wide w e)
       (λ i x y (lx, p) (ly, q). (
         length-⊻ x y w lx ly,
         ap₂ ◌⊻◌ p q ∙ ⊻-assoc (at r i) (sum_of w e (marks o x)) (sum_of w e (marks o y))
-            ∙ ap (λ (v : Row). at r i ⊻ v) (sum_of-⊻ w e (marks o x) (marks o y) we
-            ∙ sum_of_ext w e (λ (k : ℕ). marks o x k ⊕ marks o y k) (marks o (x ⊻ y)) (λ k m. sym (has-⊻ (o + k) x y))),
+            ∙ ap (λ (v : Row). at r i ⊻ v) (sum_of-⊻ w e (marks o x) (marks o y) we ∙ sum_of_ext w e (λ (k : ℕ). marks o x k ⊕ marks o y k) (marks o (x ⊻ y)) (λ k m. sym (has-⊻ (o + k) x y))),
       ))
       given
       (λ i m.

@@ -122,9 +122,7 @@ module _ (c : ℕ) (e r : List Row) where
   some i b s z h q (I, n) =
       let d : i < length s.eqs = omega arith in (
         cleared c i b s d q I,
-        pass-rank b i s
-            ∙ ap (λ (m : ℕ). m + 1) (n ∙ sym (tally_ext (λ (k : ℕ). led c (at (pass (suc b) i s).eqs k))
-            (λ (k : ℕ). led c (at s.eqs k)) i (λ k l. ap (λ (a : ℕ). not (eqb a 0)) (kept c i b s d q I k l))))
+        pass-rank b i s ∙ ap (λ (m : ℕ). m + 1) (n ∙ sym (tally_ext (λ (k : ℕ). led c (at (pass (suc b) i s).eqs k)) (λ (k : ℕ). led c (at s.eqs k)) i (λ k l. ap (λ (a : ℕ). not (eqb a 0)) (kept c i b s d q I k l))))
             ∙ add_comm (pivots_to c (pass (suc b) i s).eqs i) 1
             ∙ ap (λ (u : Bool). bit (not u) + pivots_to c (pass (suc b) i s).eqs i) (sym (eqb-suc-zero b))
             ∙ ap (λ (a : ℕ). bit (not (eqb a 0)) + pivots_to c (pass (suc b) i s).eqs i) (sym (ap (lead c) (pass_same b i s d) ∙ q)),

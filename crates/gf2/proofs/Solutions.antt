@@ -31,8 +31,7 @@ use Rattle.gf2.proofs.Passes.{solve_sized, span}
 use Rattle.gf2.proofs.Linear.{same_solutions, rest-same_values, vanishes-at}
 use Rattle.gf2.proofs.Reduced.{reduced, distinct, rank-counts}
 use Rattle.gf2.proofs.Sums.{value_hom, dot_ext, dot-no-lead, dot-zeros, dot-unit}
-use Rattle.gf2.proofs.Fill.{dot-fill, owner-some, value-lead, length-fill, fill-free, is-consistent, is-solved}
-use Rattle.gf2.proofs.Fill.{is-completed, is_unique, is-first, is_last, count-led_le, is-counted}
+use Rattle.gf2.proofs.Fill.{dot-fill, owner-some, value-lead, length-fill, fill-free, is-consistent, is-solved, is-completed, is_unique, is-first, is_last, count-led_le, is-counted}
 
 module _ (c : ℕ) (e r : List Row) where
   abbrev pub after : List Row
@@ -69,8 +68,7 @@ module _ (c : ℕ) (e r : List Row) where
       go (some y) m =
           let (j, d, a, u) = owner-some c after t y m in
           let v : lead c (at after j) ≡ suc t = ap (lead c) a ∙ u in
-          absurd (not-both h ((reduced c e r).others j t d v k l
-          (λ (w : k ≡ j). n (let s : suc t ≡ suc b = sym v ∙ ap (λ (i : ℕ). lead c (at after i)) (sym w) ∙ q in omega arith))))
+          absurd (not-both h ((reduced c e r).others j t d v k l (λ (w : k ≡ j). n (let s : suc t ≡ suc b = sym v ∙ ap (λ (i : ℕ). lead c (at after i)) (sym w) ∙ q in omega arith))))
 
   module _ (κ : Row → Bool) (hom : Hom κ) where
     pub solves-same : (z : List Bool) → solves κ e z ≡ solves κ after z
@@ -109,21 +107,17 @@ module _ (c : ℕ) (e r : List Row) where
 
       pub solution_unique : (u v : List Bool) → length u ≡ g → length v ≡ g → solves κ e u ≡ true → solves κ e v ≡ true
           → ((b : ℕ) → owner c after b ≡ none → get_or u b false ≡ get_or v b false) → u ≡ v
-      solution_unique u v nu nv hu hv f =
-          is_unique c κ after g hg after_distinct (after-within g B) u v nu nv (sym (solves-same u) ∙ hu) (sym (solves-same v) ∙ hv) f
+      solution_unique u v nu nv hu hv f = is_unique c κ after g hg after_distinct (after-within g B) u v nu nv (sym (solves-same u) ∙ hu) (sym (solves-same v) ∙ hv) f
 
       -- a pivot is the sum of the unknowns before it that its equation has, and the constant
-      pub pivot_value : (z : List Bool) → length z ≡ g → solves κ e z ≡ true → (k b : ℕ) → k < length after
-          → lead c (at after k) ≡ suc b → get_or z b false ≡ dot 0 (at after k) (take b z) ⊕ κ (at after k)
+      pub pivot_value : (z : List Bool) → length z ≡ g → solves κ e z ≡ true → (k b : ℕ) → k < length after → lead c (at after k) ≡ suc b → get_or z b false ≡ dot 0 (at after k) (take b z) ⊕ κ (at after k)
       pivot_value z n h k b l q =
           let m = after-within g B k l in
           eq_⊕ (get_or z b false) (dot 0 (at after k) (take b z) ⊕ κ (at after k))
-          (ap not (sym (value-lead c κ after after_distinct z (omega arith) (λ i d. rw n (after-within g B i d)) (at after k) b q (omega arith))
-          ∙ vanishes-at (value κ z) after (sym (solves-same z) ∙ h) k l))
+          (ap not (sym (value-lead c κ after after_distinct z (omega arith) (λ i d. rw n (after-within g B i d)) (at after k) b q (omega arith)) ∙ vanishes-at (value κ z) after (sym (solves-same z) ∙ h) k l))
 
       -- so two solutions that agree at the free unknowns before it agree at it
-      pub pivot_follows : (u v : List Bool) → length u ≡ g → length v ≡ g → solves κ e u ≡ true
-          → solves κ e v ≡ true → (k b : ℕ) → k < length after → lead c (at after k) ≡ suc b
+      pub pivot_follows : (u v : List Bool) → length u ≡ g → length v ≡ g → solves κ e u ≡ true → solves κ e v ≡ true → (k b : ℕ) → k < length after → lead c (at after k) ≡ suc b
           → ((t : ℕ) → t < b → owner c after t ≡ none → get_or u t false ≡ get_or v t false) → get_or u b false ≡ get_or v b false
       pivot_follows u v nu nv hu hv k b l q f =
           let m = after-within g B k l in
@@ -131,8 +125,7 @@ module _ (c : ℕ) (e r : List Row) where
           let lv = length-take-le b v (omega arith) in
           pivot_value u nu hu k b l q
           ∙ ap (λ (s : Bool). s ⊕ κ (at after k)) (dot_ext 0 (at after k) (take b u) (take b v) (lu ∙ sym lv)
-          (λ t d p. let w : t < b = omega arith in
-          get_or-take b u t false w ∙ f t w (pivot_free k b t l q (rw (zero-add t) at p) (λ (x : t ≡ b). omega arith)) ∙ sym (get_or-take b v t false w)))
+          (λ t d p. let w : t < b = omega arith in get_or-take b u t false w ∙ f t w (pivot_free k b t l q (rw (zero-add t) at p) (λ (x : t ≡ b). omega arith)) ∙ sym (get_or-take b v t false w)))
           ∙ sym (pivot_value v nv hv k b l q)
 
       -- ---- the first and the last, and how many
@@ -158,13 +151,11 @@ module _ (c : ℕ) (e r : List Row) where
       settled z n h j l q = sym (rest_values z h j l) ∙ ap (λ (b : Bool). b ⊕ κ (at rest j)) (dot-no-lead c (at rest j) z (omega arith) q)
 
       -- any row has the sum of its free unknowns and what it carries
-      pub rest-by-free : consistent c κ after ≡ true → (z : List Bool) → length z ≡ g → (j : ℕ)
-          → j < length r → value κ (completed c κ after z) (at r j) ≡ dot 0 (at rest j) z ⊕ κ (at rest j)
+      pub rest-by-free : consistent c κ after ≡ true → (z : List Bool) → length z ≡ g → (j : ℕ) → j < length r → value κ (completed c κ after z) (at r j) ≡ dot 0 (at rest j) z ⊕ κ (at rest j)
       rest-by-free h z n j l =
           let m = solve_sized c e r in
           sym (rest_values (completed c κ after z) (completed-solves h z n) j l)
-          ∙ ap (λ (b : Bool). b ⊕ κ (at rest j)) (dot-fill c κ after [] z (at rest j) (λ t y q. let (k, d, a, u) = owner-some c after t y q in
-          (reduced c e r).rests k t d (ap (lead c) a ∙ u) j (omega arith)))
+          ∙ ap (λ (b : Bool). b ⊕ κ (at rest j)) (dot-fill c κ after [] z (at rest j) (λ t y q. let (k, d, a, u) = owner-some c after t y q in (reduced c e r).rests k t d (ap (lead c) a ∙ u) j (omega arith)))
 
       -- at the first solution what it carries
       pub first-value : consistent c κ after ≡ true → (j : ℕ) → j < length r → value κ (completed c κ after (replicate g false)) (at r j) ≡ κ (at rest j)
@@ -172,11 +163,9 @@ module _ (c : ℕ) (e r : List Row) where
 
       -- with a coefficient left two solutions differ at it
       pub unsettled : consistent c κ after ≡ true → (j b : ℕ) → j < length r → lead c (at rest j) ≡ suc b → b < g
-          → (value κ (completed c κ after (replicate g false)) (at r j) ≡ κ (at rest j))
-          × (value κ (completed c κ after (unit g b)) (at r j) ≡ not (κ (at rest j)))
+          → (value κ (completed c κ after (replicate g false)) (at r j) ≡ κ (at rest j)) × (value κ (completed c κ after (unit g b)) (at r j) ≡ not (κ (at rest j)))
       unsettled h j b l q w = (
         first-value h j l,
         rest-by-free h (unit g b) (length-set (replicate g false) b true ∙ length-replicate g false) j l
-            ∙ ap (λ (u : Bool). u ⊕ κ (at rest j)) (dot-unit 0 (at rest j) g b w
-            ∙ ap (λ (t : ℕ). has t (at rest j)) (zero-add b) ∙ lead-holds c (at rest j) b q),
+            ∙ ap (λ (u : Bool). u ⊕ κ (at rest j)) (dot-unit 0 (at rest j) g b w ∙ ap (λ (t : ℕ). has t (at rest j)) (zero-add b) ∙ lead-holds c (at rest j) b q),
       )

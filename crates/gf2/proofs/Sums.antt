@@ -64,8 +64,7 @@ pub dot-no-lead : (c : ℕ) (x : Row) (z : List Bool) → length z ≤ 64 * c �
 dot-no-lead c x z h q = dot-none 0 x z (λ t p l. lead_above c x t (omega arith) (omega arith))
 
 -- with the pivot b: the unknowns before b, and b
-pub dot-lead : (c : ℕ) (x : Row) (z : List Bool) (b : ℕ) → length z ≤ 64 * c
-    → lead c x ≡ suc b → b < length z → dot 0 x z ≡ dot 0 x (take b z) ⊕ get_or z b false
+pub dot-lead : (c : ℕ) (x : Row) (z : List Bool) (b : ℕ) → length z ≤ 64 * c → lead c x ≡ suc b → b < length z → dot 0 x z ≡ dot 0 x (take b z) ⊕ get_or z b false
 unfolding dot
 dot-lead c x z b h q l =
     let t = get_or z b false in

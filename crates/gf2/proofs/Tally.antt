@@ -55,26 +55,20 @@ unfolding tally
 tally_or f g zero h = refl
 tally_or f g (suc n) h = go (f n) (g n) (h n (omega arith)) (tally_or f g n (λ k l. h k (omega arith)))
   where
-    go : (a b : Bool) → (a ≡ true → b ≡ false) → tally (λ (k : ℕ). f k || g k) n ≡ tally f n + tally g n
-        → bit (a || b) + tally (λ (k : ℕ). f k || g k) n ≡ bit a + tally f n + (bit b + tally g n)
+    go : (a b : Bool) → (a ≡ true → b ≡ false) → tally (λ (k : ℕ). f k || g k) n ≡ tally f n + tally g n → bit (a || b) + tally (λ (k : ℕ). f k || g k) n ≡ bit a + tally f n + (bit b + tally g n)
     go true b i e = let q : bit b ≡ 0 = ap bit (i refl) in omega arith
     go false b i e = omega arith
 
 tally_far : (a g : ℕ) → g < a → tally (λ (b : ℕ). eqb a (suc b)) g ≡ 0
 unfolding tally
 tally_far a zero h = refl
-tally_far a (suc g) h =
-    let q : bit (eqb a (suc g)) ≡ 0 = ap bit (ne_eqb a (suc g) (λ (w : a ≡ suc g). omega arith)) in
-    omega (arith, tally_far a g (omega arith))
+tally_far a (suc g) h = let q : bit (eqb a (suc g)) ≡ 0 = ap bit (ne_eqb a (suc g) (λ (w : a ≡ suc g). omega arith)) in omega (arith, tally_far a g (omega arith))
 
 -- one more than some b below g, or 0
 pub tally_at : (a g : ℕ) → a ≤ g → tally (λ (b : ℕ). eqb a (suc b)) g ≡ bit (not (eqb a 0))
 unfolding tally
 tally_at a zero h = let q : bit (not (eqb a 0)) ≡ 0 = ap (λ (t : Bool). bit (not t)) (eq-eqb a 0 (omega arith)) in omega arith
 tally_at a (suc g) h = ⊎_elim
-    (λ (w : a ≡ suc g). let p : bit (eqb a (suc g)) ≡ 1 = ap bit (eq-eqb a (suc g) w) in
-    let q : bit (not (eqb a 0)) ≡ 1 = ap (λ (t : Bool). bit (not t)) (ne_eqb a 0 (λ (v : a ≡ 0). omega arith)) in
-    omega (arith, tally_far a g (omega arith)))
-    (λ (w : a < suc g). let p : bit (eqb a (suc g)) ≡ 0 = ap bit (ne_eqb a (suc g) (λ (v : a ≡ suc g). omega arith)) in
-    omega (arith, tally_at a g (omega arith)))
+    (λ (w : a ≡ suc g). let p : bit (eqb a (suc g)) ≡ 1 = ap bit (eq-eqb a (suc g) w) in let q : bit (not (eqb a 0)) ≡ 1 = ap (λ (t : Bool). bit (not t)) (ne_eqb a 0 (λ (v : a ≡ 0). omega arith)) in omega (arith, tally_far a g (omega arith)))
+    (λ (w : a < suc g). let p : bit (eqb a (suc g)) ≡ 0 = ap bit (ne_eqb a (suc g) (λ (v : a ≡ suc g). omega arith)) in omega (arith, tally_at a g (omega arith)))
     (eq-or-lt_of_le h)

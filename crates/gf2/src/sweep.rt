@@ -64,8 +64,7 @@ fn pivot(
     rank: usize,
 ) -> usize
     requires { (length eqs.old ≡ m * w) × (length rest.old ≡ q * w) × (i < m) × (c ≤ w) × (0 < w) × (rank ≤ i) }
-    ensures { sys (rows w m eqs.new) (rows w q rest.new) result
-        ≡ step c i (sys (rows w m eqs.old) (rows w q rest.old) rank) }
+    ensures { sys (rows w m eqs.new) (rows w q rest.new) result ≡ step c i (sys (rows w m eqs.old) (rows w q rest.old) rank) }
 {
     let at = i * w;
     let k = words(eqs, at, c);
@@ -82,8 +81,7 @@ fn pivot(
 // Each equation in turn. The shapes fit.
 pub fn run(eqs: &mut [u64], m: usize, rest: &mut [u64], q: usize, c: usize, w: usize) -> usize
     requires { (length eqs.old ≡ m * w) × (length rest.old ≡ q * w) × (c ≤ w) × (0 < w) }
-    ensures { sys (rows w m eqs.new) (rows w q rest.new) result
-        ≡ solve c (rows w m eqs.old) (rows w q rest.old) }
+    ensures { sys (rows w m eqs.new) (rows w q rest.new) result ≡ solve c (rows w m eqs.old) (rows w q rest.old) }
 {
     let mut rank = 0;
     let mut i = 0;

@@ -51,8 +51,7 @@ less_left room n k left (pos (suc j)) l el ek = omega (arith, l, ek, el, one_at_
 less_left room n k left (negsuc j) l el ek = omega (arith, l, ek, el)
 
 -- after it less is left to do: `after` is the room with those bytes, and its part from n on was lent
-pub read_less : (room n k : ℕ) (after : List ℕ) (last z : ℤ) → lt_z (pos 0) last ≡ true → n < room
-    → length after ≡ room → k ≡ clamp_len z (length (take (length after - n) (drop n after)))
+pub read_less : (room n k : ℕ) (after : List ℕ) (last z : ℤ) → lt_z (pos 0) last ≡ true → n < room → length after ≡ room → k ≡ clamp_len z (length (take (length after - n) (drop n after)))
     → to_read (length after) (n + k) z < to_read room n last
 read_less room n k after last z t l e ek = rw (e, sym (moving_is last) ∙ t) (less_left room n k _ z l (simp (length-take, length-drop) (omega (arith, e))) ek)
 

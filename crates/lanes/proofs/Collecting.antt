@@ -22,8 +22,7 @@ use Rattle.bits.specs.Vectors.{pick, all, tab, first_place}
 use Rattle.bits.specs.Words.{has_bit}
 use Rattle.bits.specs.Rows.{Row, row, rows_of}
 use Rattle.bits.specs.Rows as bits
-use Rattle.bits.proofs.Tests.{length-tab, tab-at, tab_snoc, not-both, place_found, place-next, place_end}
-use Rattle.bits.proofs.Tests.{place_le, place_passes, all_fails, all-next, all_end, all-at, le_or_lt, and-true}
+use Rattle.bits.proofs.Tests.{length-tab, tab-at, tab_snoc, not-both, place_found, place-next, place_end, place_le, place_passes, all_fails, all-next, all_end, all-at, le_or_lt, and-true}
 use Rattle.bits.proofs.WordBits.{has_bit_or, zero_bit}
 use Rattle.gf2.specs.System.{led, consistent}
 use Rattle.lanes.specs.Lanes.{up_to, lane_constant, first_unsound}
@@ -40,8 +39,7 @@ pub record AddedUpTo (c : ℕ) (x : Row) (b₀ b : List ℕ) (k : ℕ) : Type 0 
 pub add_none : (c : ℕ) (x : Row) (b : List ℕ) → AddedUpTo c x b b 0
 add_none c x b = record { some = omega arith; size = refl; new = λ i j h l. absurd (omega arith); old = λ i h. refl }
 
-pub add_next : {c : ℕ} {x : Row} {b₀ b : List ℕ} {k : ℕ} → AddedUpTo c x b₀ b k → length b₀ ≡ 8 → k < 8 → (r : ℕ) → LaneWord c k x r
-    → AddedUpTo c x b₀ (set b k (bit_or (get_or b k 0) r)) (k + 1)
+pub add_next : {c : ℕ} {x : Row} {b₀ b : List ℕ} {k : ℕ} → AddedUpTo c x b₀ b k → length b₀ ≡ 8 → k < 8 → (r : ℕ) → LaneWord c k x r → AddedUpTo c x b₀ (set b k (bit_or (get_or b k 0) r)) (k + 1)
 add_next {c} {x} {b₀} {b} {k} u l h r w =
     record {
       some = omega arith;
@@ -84,12 +82,7 @@ pub record CollectedUpTo (c w : ℕ) (l b : List ℕ) (m i : ℕ) : Type 0 where
   pub lane : (t : ℕ) → t < 512 → lane_in b t ≡ not (consistent c (lane_constant c t) (bits.rows w i l))
 
 pub collect_none : (c w : ℕ) (l b : List ℕ) (m : ℕ) → b ≡ replicate 8 0 → CollectedUpTo c w l b m 0
-collect_none c w l b m e =
-    record {
-      some = omega arith;
-      lane = λ t h. ap (λ (z : ℕ). has_bit z (t % 64)) (ap (λ (d : List ℕ). get_or d (t / 64) 0) e ∙ get_or-nought 8 (t / 64))
-          ∙ zero_bit (t % 64);
-    }
+collect_none c w l b m e = record { some = omega arith; lane = λ t h. ap (λ (z : ℕ). has_bit z (t % 64)) (ap (λ (d : List ℕ). get_or d (t / 64) 0) e ∙ get_or-nought 8 (t / 64)) ∙ zero_bit (t % 64) }
 
 all_snoc : {A : Type 0} (p : A → Bool) (l : List A) (a : A) → all p (l ++ (a ∷ [])) ≡ all p l && p a
 all_snoc p [] a = and-true (p a)
@@ -140,11 +133,7 @@ module _ {b : List ℕ} {k : ℕ} (u : NoneUpTo b k) where
   pub none-next : get_or b k 0 ≡ 0 → k < 8 → k < length b → NoneUpTo b (k + 1)
   none-next e l h =
       let s : suc k ≡ k + 1 = omega arith in
-      record {
-        some = omega arith;
-        left = ap (λ (i : ℕ). all (λ (x : ℕ). eqb x 0) (drop i b)) (sym s)
-            ∙ sym (all-next (λ (x : ℕ). eqb x 0) b k 0 h (eq-eqb (get_or b k 0) 0 e)) ∙ u.left;
-      }
+      record { some = omega arith; left = ap (λ (i : ℕ). all (λ (x : ℕ). eqb x 0) (drop i b)) (sym s) ∙ sym (all-next (λ (x : ℕ). eqb x 0) b k 0 h (eq-eqb (get_or b k 0) 0 e)) ∙ u.left }
 
   pub none_end : length b ≤ k → true ≡ none_in b
   none_end h = sym (all_end (λ (x : ℕ). eqb x 0) b k h) ∙ u.left
@@ -174,9 +163,7 @@ module _ {b : List ℕ} {t : ℕ} (u : Sought b t) where
       let s : suc t ≡ t + 1 = omega arith in
       record {
         some = omega arith;
-        left =
-            ap (λ (k : ℕ). k + first_place (lane_in b) (drop k (up_to 512))) (sym s)
-            ∙ sym (place-next (lane_in b) (up_to 512) t 0 (omega (arith, all_lanes)) (ap (lane_in b) (here h) ∙ ne_eqb _ 1 n)) ∙ u.left;
+        left = ap (λ (k : ℕ). k + first_place (lane_in b) (drop k (up_to 512))) (sym s) ∙ sym (place-next (lane_in b) (up_to 512) t 0 (omega (arith, all_lanes)) (ap (lane_in b) (here h) ∙ ne_eqb _ 1 n)) ∙ u.left;
       }
 
   pub seek_end : 512 ≤ t → t ≡ first_in b
@@ -186,8 +173,7 @@ module _ {b : List ℕ} {t : ℕ} (u : Sought b t) where
 
 pub place_below : (n : ℕ) (f : ℕ → ℕ) (p q : ℕ → Bool) → ((i : ℕ) → i < n → p (f i) ≡ q (f i)) → first_place p (tab n f) ≡ first_place q (tab n f)
 place_below zero f p q h = refl
-place_below (suc n) f p q h =
-    ap₂ (λ (b : Bool) (k : ℕ). pick b zero (suc k)) (h 0 (omega arith)) (place_below n (λ (i : ℕ). f (suc i)) p q (λ i k. h (suc i) (omega arith)))
+place_below (suc n) f p q h = ap₂ (λ (b : Bool) (k : ℕ). pick b zero (suc k)) (h 0 (omega arith)) (place_below n (λ (i : ℕ). f (suc i)) p q (λ i k. h (suc i) (omega arith)))
 
 module _ (c : ℕ) (e : List Row) (b : List ℕ) (a : Collected c e b) where
   pub seek_first : first_in b ≡ first_unsound c e
@@ -197,9 +183,7 @@ module _ (c : ℕ) (e : List Row) (b : List ℕ) (a : Collected c e b) where
   pub none_first : length b ≡ 8 → none_in b ≡ true → 512 ≡ first_unsound c e
   unfolding first_in none_in
   none_first l h = ⊎_elim (λ (p : 512 ≤ first_in b). let q = place_le (lane_in b) (up_to 512) in omega (arith, all_lanes, seek_first))
-      (λ (p : first_in b < 512). absurd (not-both (place_passes (lane_in b) (up_to 512) 0 (omega (arith, all_lanes)))
-      (empty (get_or (up_to 512) (first_in b) 0) (rw (tab-at 512 (λ (i : ℕ). i) (first_in b) 0 p) p)))) (le_or_lt 512 (first_in b))
+      (λ (p : first_in b < 512). absurd (not-both (place_passes (lane_in b) (up_to 512) 0 (omega (arith, all_lanes))) (empty (get_or (up_to 512) (first_in b) 0) (rw (tab-at 512 (λ (i : ℕ). i) (first_in b) 0 p) p)))) (le_or_lt 512 (first_in b))
     where
       empty : (t : ℕ) → t < 512 → lane_in b t ≡ false
-      empty t q =
-          ap (λ (z : ℕ). has_bit z (t % 64)) (eqb-true (get_or b (t / 64) 0) 0 (all-at (λ (x : ℕ). eqb x 0) 0 b h (t / 64) (omega arith))) ∙ zero_bit (t % 64)
+      empty t q = ap (λ (z : ℕ). has_bit z (t % 64)) (eqb-true (get_or b (t / 64) 0) 0 (all-at (λ (x : ℕ). eqb x 0) 0 b h (t / 64) (omega arith))) ∙ zero_bit (t % 64)

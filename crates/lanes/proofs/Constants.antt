@@ -1,6 +1,6 @@
 -- What one row says in a lane.
 --     common-is, own_is             the two bits that make the constant of a lane
---     common-one, common-zero       the constant that all lanes have in common, as the code reads it
+--     common_one, common-zero       the constant that all lanes have in common, as the code reads it
 --     lane_word_lem                     the constants of 64 lanes
 use mathlib.Core.Path.{◌≡◌, refl, sym, ap, ap₂, ◌∙◌}
 use Prim.Native.Nat.{ℕ, ◌+◌, ◌*◌, ◌/◌, ◌%◌, ◌^◌, ◌<◌}
@@ -29,8 +29,8 @@ module _ (c : ℕ) (x : Row) where
       let e : get_or x c 0 / 1 ≡ get_or x c 0 = omega arith in
       ap bit common-is ∙ bit-has (get_or x c 0) 0 ∙ ap (λ (y : ℕ). y % 2) e
 
-  pub common-one : get_or x c 0 % 2 ≡ 1 → full ≡ common_word c x
-  common-one h = go (has (64 * c) x) common-bit
+  pub common_one : get_or x c 0 % 2 ≡ 1 → full ≡ common_word c x
+  common_one h = go (has (64 * c) x) common-bit
     where
       go : (b : Bool) → bit b ≡ get_or x c 0 % 2 → full ≡ pick b full 0
       go true e = refl
@@ -63,7 +63,6 @@ module _ (c : ℕ) (x : Row) where
     bits = λ j h.
         let q : (64 * k + j) / 64 ≡ k = omega arith in
         let z : (64 * k + j) % 64 ≡ j = omega arith in
-        let o : has (64 * (c + 1) + (64 * k + j)) x ≡ has_bit (get_or x (c + 1 + k) 0) j = own_is (64 * k + j)
-        ∙ ap₂ (λ (i t : ℕ). has_bit (get_or x (c + 1 + i) 0) t) q z in
+        let o : has (64 * (c + 1) + (64 * k + j)) x ≡ has_bit (get_or x (c + 1 + k) 0) j = own_is (64 * k + j) ∙ ap₂ (λ (i t : ℕ). has_bit (get_or x (c + 1 + i) 0) t) q z in
         has_bit_xor r (get_or x (c + 1 + k) 0) j ∙ ap₂ ◌⊕◌ (ap (λ (y : ℕ). has_bit y j) e ∙ common_each j h) (sym o);
   }

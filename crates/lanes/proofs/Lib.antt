@@ -1,6 +1,7 @@
 -- Constants: what one row says in a lane. Collecting: the lanes in which rows with no coefficient have the constant 1. Spelling: bytes, records and marks.
--- Reading: what is read off lists of words, and the reply.
+-- Fitting: whether what is handed over fits together. Replying: the reply.
 pub mod Constants
 pub mod Collecting
 pub mod Spelling
-pub mod Reading
+pub mod Fitting
+pub mod Replying

@@ -19,12 +19,13 @@ use borrow.Rule.Slice.PartMut.{put_mid}
 use Rattle.bits.specs.Vectors.{bit, pick, tab}
 use Rattle.bits.specs.Words.{bit_at, has_bit}
 use Rattle.bits.specs.Rows.{Row, row, rows_of}
-use Rattle.bits.proofs.Tests.{length-tab, tab-get_or, le_or_lt, map-tab}
+use Rattle.bits.proofs.Tests.{length-tab, tab-get_or, le_or_lt}
 use Rattle.bits.proofs.WordBits.{bit-has, bit-suc, shr_bit, low_bit}
 use Rattle.bits.proofs.RowLaws.{length-flatten}
 use Rattle.bits.proofs.RowsWritten.{put-behind}
 use Rattle.bits.proofs.Records.{wide-tab}
 use Rattle.gf2.specs.System.{led}
+use Rattle.verdict.proofs.Assembling.{map-tab}
 use Rattle.lanes.specs.Lanes.{packed, lane_constant, row_byte, row_record, row_mark, row_repaired}
 use Rattle.lanes.specs.Inner.{LaneWord, PutEight, record_rows, mark_rows}
 
@@ -40,17 +41,14 @@ pub record PutUpTo (at x : ℕ) (l₀ l : List ℕ) (rest i : ℕ) : Type 0 wher
 pub put-none : (at x : ℕ) (l : List ℕ) → PutUpTo at x l l x 0
 put-none at x l = record { some = omega arith; size = refl; left = sym (div-one x); new = λ q h. absurd (omega arith); old = λ p h. refl }
 
-pub put_next : {at x : ℕ} {l₀ l : List ℕ} {rest i : ℕ} → PutUpTo at x l₀ l rest i → at + 8 ≤ length l₀ → i < 8
-    → PutUpTo at x l₀ (set l (at + i) (rest % 256)) (rest / 256) (i + 1)
+pub put_next : {at x : ℕ} {l₀ l : List ℕ} {rest i : ℕ} → PutUpTo at x l₀ l rest i → at + 8 ≤ length l₀ → i < 8 → PutUpTo at x l₀ (set l (at + i) (rest % 256)) (rest / 256) (i + 1)
 put_next {at} {x} {l₀} {l} {rest} {i} u r h =
     let s = u.size in
     let e : 8 * i + 8 ≡ 8 * (i + 1) = omega arith in
     record {
       some = omega arith;
       size = length-set l (at + i) (rest % 256) ∙ u.size;
-      left =
-          ap (λ (y : ℕ). y / 256) u.left ∙ div-div-eq-div-mul x (2 ^ (8 * i)) 256 ∙ ap (λ (y : ℕ). x / y) (sym (pow-add 2 (8 * i) 8))
-          ∙ ap (λ (k : ℕ). x / 2 ^ k) e;
+      left = ap (λ (y : ℕ). y / 256) u.left ∙ div-div-eq-div-mul x (2 ^ (8 * i)) 256 ∙ ap (λ (y : ℕ). x / y) (sym (pow-add 2 (8 * i) 8)) ∙ ap (λ (k : ℕ). x / 2 ^ k) e;
       new = λ q p. let t : q ≤ i = omega arith in go q (eq-or-lt_of_le t);
       old = λ p q. get_or-set_other l (at + i) p (rest % 256) 0 (λ (z : p ≡ at + i). omega arith) ∙ u.old p q;
     }
@@ -66,16 +64,14 @@ put_all u h = record { new = λ q p. u.new q (omega arith); old = u.old }
 
 pub packed_ext : (n : ℕ) (f g : ℕ → ℕ) → ((b : ℕ) → b < n → f b ≡ g b) → packed n f ≡ packed n g
 packed_ext zero f g h = refl
-packed_ext (suc n) f g h =
-    ap₂ (λ (x y : ℕ). x + y * 2) (h 0 (omega arith)) (packed_ext n (λ (i : ℕ). f (suc i)) (λ (i : ℕ). g (suc i)) (λ b k. h (suc b) (omega arith)))
+packed_ext (suc n) f g h = ap₂ (λ (x y : ℕ). x + y * 2) (h 0 (omega arith)) (packed_ext n (λ (i : ℕ). f (suc i)) (λ (i : ℕ). g (suc i)) (λ b k. h (suc b) (omega arith)))
 
 pub packed-bits : (n y : ℕ) → y < 2 ^ n → packed n (bit_at y) ≡ y
 packed-bits zero y h = omega arith
 packed-bits (suc n) y h =
     let p = pow-suc 2 n in
     let e : y / 1 % 2 + y / 2 * 2 ≡ y = omega arith in
-    ap (λ (x : ℕ). y / 1 % 2 + x * 2) (packed_ext n (λ (i : ℕ). bit_at y (suc i)) (bit_at (y / 2)) (λ b k. bit-suc y b) ∙ packed-bits n (y / 2) (omega arith))
-    ∙ e
+    ap (λ (x : ℕ). y / 1 % 2 + x * 2) (packed_ext n (λ (i : ℕ). bit_at y (suc i)) (bit_at (y / 2)) (λ b k. bit-suc y b) ∙ packed-bits n (y / 2) (omega arith)) ∙ e
 
 -- a bit of the lowest byte
 mod_bit : (y j : ℕ) → j < 8 → has_bit (y % 256) j ≡ has_bit y j
@@ -104,8 +100,7 @@ pub record SpeltUpTo (c : ℕ) (x : Row) (l : List ℕ) (k : ℕ) : Type 0 where
 pub spell_none : (c : ℕ) (x : Row) (l : List ℕ) → length l ≡ 64 → SpeltUpTo c x l 0
 spell_none c x l e = record { some = omega arith; size = e; is = λ p h. absurd (omega arith) }
 
-pub spell_next : {c : ℕ} {x : Row} {l l' : List ℕ} {k r : ℕ} → SpeltUpTo c x l k → k < 8 → length l' ≡ length l → LaneWord c k x r → PutEight (8 * k) r l l'
-    → SpeltUpTo c x l' (k + 1)
+pub spell_next : {c : ℕ} {x : Row} {l l' : List ℕ} {k r : ℕ} → SpeltUpTo c x l k → k < 8 → length l' ≡ length l → LaneWord c k x r → PutEight (8 * k) r l l' → SpeltUpTo c x l' (k + 1)
 spell_next {c} {x} {l} {l'} {k} {r} u h e w o = record {
   some = omega arith;
   size = e ∙ u.size;
@@ -159,8 +154,7 @@ module _ (c w : ℕ) (vals : List ℕ) where
   pub records-long : (n : ℕ) → length (record_rows c w vals n) ≡ n * 64
   unfolding record_rows
   records-long n =
-      length-flatten 64 (tab n (λ (j : ℕ). row_record c (row w vals j))) (wide-tab 64 n (λ (j : ℕ). row_record c (row w vals j))
-      (λ j. record_long c (row w vals j)))
+      length-flatten 64 (tab n (λ (j : ℕ). row_record c (row w vals j))) (wide-tab 64 n (λ (j : ℕ). row_record c (row w vals j)) (λ j. record_long c (row w vals j)))
       ∙ ap (λ (k : ℕ). k * 64) (length-tab n (λ (j : ℕ). row_record c (row w vals j)))
 
   -- the records, and the marks put behind them

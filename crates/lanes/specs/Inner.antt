@@ -1,4 +1,4 @@
--- The steps of the code.
+-- The steps of `conclude`.
 --     common_word c x, LaneWord c k x r     the constant that all lanes have in common, in each bit; r has the constants of lanes 64 k to 64 k + 63
 --     lane_in b t                           whether lane t is one of those that eight words say
 --     Added, AddedBare, Collected          the lanes of a row are added; where it has no coefficient; those of all rows are

@@ -7,17 +7,16 @@
 --     row_byte, row_record, row_mark   byte i of the record that a row spells; the record, zeros where a coefficient is left; its mark, 1 where one is
 --     row_repaired c rs              the records end to end, then their marks
 --     row_reply c g m s out          the reply, from the system s that the solver leaves
---     unsound_in c w eqs             the first unsound lane, off a list of words
---     repaired_over c w vals out     the output that starts with what is repaired; as found where `vals` are no whole rows or it is too short
-use Rattle.std.specs.Prelude.{ℕ, zero, suc, ◌+◌, ◌-◌, ◌*◌, ◌/◌, Bool, not, ◌&&◌, length, drop, replicate, leb, ltb}
+--     fits                          numbers, lengths of the two lists of words and room of the output fit together
+--     concluding                    what `conclude` answers and leaves; where they do not fit, BadShape
+use Rattle.std.specs.Prelude.{ℕ, zero, suc, ◌+◌, ◌-◌, ◌*◌, ◌/◌, ◌%◌, Bool, not, ◌&&◌, length, replicate, eqb, leb, ltb}
 use mathlib.Core.List.{List, ◌++◌, map, flatten}
 use Rattle.bits.specs.Vectors.{◌⊕◌, bit, pick, tab, first_place}
 use Rattle.bits.specs.Rows.{Row, has, rows_of}
-use Rattle.gf2.specs.Solve.{Sys}
+use Rattle.gf2.specs.Solve.{Sys, sys}
 use Rattle.gf2.specs.System.{led, consistent}
-use Rattle.meaning.specs.Answers.{Reply, leaving, writing, foundOf}
-use Rattle.meaning.specs.declared.Answer.TheVariants.{LaneInconsistent}
-use Rattle.verdict.specs.Words.{fits}
+use Rattle.meaning.specs.Answers.{Reply, leaving, writing}
+use Rattle.meaning.specs.declared.Answer.TheVariants.{Unique, Ambiguous, LaneInconsistent, BadShape}
 
 abbrev pub up_to : ℕ → List ℕ
 up_to n = tab n (λ (i : ℕ). i)
@@ -51,17 +50,16 @@ row_repaired c rs = flatten (map (row_record c) rs) ++ map (row_mark c) rs
 -- g unknowns, m equations; g - rank of the unknowns are free
 unfoldable pub row_reply : ℕ → ℕ → ℕ → Sys → List ℕ → Reply
 row_reply c g m s out =
+    let d = g - s.rank in
     let t = first_unsound c s.eqs in
-    pick (ltb t 512) (leaving out (LaneInconsistent t g m)) (writing (row_repaired c s.rest) out (foundOf g m (g - s.rank)))
+    pick (ltb t 512) (leaving out (LaneInconsistent t g m)) (writing (row_repaired c s.rest) out (pick (eqb d 0) (Unique g m) (Ambiguous g m d)))
 
--- ---- off a list of words
+-- nine words behind the coefficients, no more pivots than unknowns, whole rows, and 65 bytes for each row of a record
+unfoldable pub fits : ℕ → ℕ → ℕ → ℕ → ℕ → ℕ → ℕ → Bool
+fits c w g rank eqs vals room = leb (c + 9) w && (leb rank g && (eqb (eqs % w) 0 && (eqb (vals % w) 0 && leb (65 * (vals / w)) room)))
 
--- 0 where `eqs` are no whole rows of nine words or more behind the coefficients
-unfoldable pub unsound_in : ℕ → ℕ → List ℕ → ℕ
-unsound_in c w eqs = pick (fits c w 8 (length eqs)) (first_unsound c (rows_of w eqs)) 0
-
--- 65 bytes for each record
-unfoldable pub repaired_over : ℕ → ℕ → List ℕ → List ℕ → List ℕ
-repaired_over c w vals out =
-    let size = 65 * (length vals / w) in
-    pick (fits c w 8 (length vals) && leb size (length out)) (row_repaired c (rows_of w vals) ++ drop size out) out
+unfoldable pub concluding : ℕ → ℕ → ℕ → ℕ → ℕ → List ℕ → List ℕ → List ℕ → Reply
+concluding c w g m rank eqs vals out =
+    pick (fits c w g rank (length eqs) (length vals) (length out))
+    (row_reply c g m (sys (rows_of w eqs) (rows_of w vals) rank) out)
+    (leaving out BadShape)

@@ -61,8 +61,7 @@ fn record(x: &[u64], c: usize, out: &mut [u8])
 // Writes the records end to end.
 fn records(vals: &[u64], c: usize, w: usize, out: &mut [u8])
     requires { (c + 9 ≤ w) × (length vals.now ≡ length vals.now / w * w) × (length vals.now / w * 64 ≤ length out.old) }
-    ensures { out.new
-        ≡ record_rows c w vals.now (length vals.now / w) ++ drop (length vals.now / w * 64) out.old }
+    ensures { out.new ≡ record_rows c w vals.now (length vals.now / w) ++ drop (length vals.now / w * 64) out.old }
 {
     let n = vals.len() / w;
     let mut j = 0;

@@ -61,8 +61,7 @@ pub rest-⊞ : (g s t u v : List Bool) → length s ≡ length t → length u �
 rest-⊞ g s t [] [] h k = refl
 rest-⊞ g s t [] (b ∷ v) h k = absurd (omega arith)
 rest-⊞ g s t (a ∷ u) [] h k = absurd (omega arith)
-rest-⊞ g s t (a ∷ u) (b ∷ v) h k =
-    ap (λ (r : List Bool). rest g r (u ⊞ v)) (shift-⊞ g s t a b h) ∙ rest-⊞ g (shift g s a) (shift g t b) u v (same-shift g s t a b h) (suc_inj k)
+rest-⊞ g s t (a ∷ u) (b ∷ v) h k = ap (λ (r : List Bool). rest g r (u ⊞ v)) (shift-⊞ g s t a b h) ∙ rest-⊞ g (shift g s a) (shift g t b) u v (same-shift g s t a b h) (suc_inj k)
 
 none-⊞ : (r : ℕ) → replicate r false ≡ replicate r false ⊞ replicate r false
 none-⊞ zero = refl
@@ -111,8 +110,7 @@ module _ (u v w : List Bool) (h : length u ≡ length v) (k : length v ≡ lengt
       let ez = eq_⊕ z (o ⊕ odd n w) (and_l (not (z ⊕ (o ⊕ odd n w))) _ r) in
       and_i _ _
       (⊕-eq (x ⊕ (y ⊕ z)) (o ⊕ odd n (u ⊞ (v ⊞ w))) (rw (ex, ey, ez, s) (three o (odd n u) (odd n v) (odd n w))))
-      (rules-three ks a b c (suc_inj l) (suc_inj m) (and_r (not (x ⊕ (o ⊕ odd n u))) _ p)
-      (and_r (not (y ⊕ (o ⊕ odd n v))) _ q) (and_r (not (z ⊕ (o ⊕ odd n w))) _ r))
+      (rules-three ks a b c (suc_inj l) (suc_inj m) (and_r (not (x ⊕ (o ⊕ odd n u))) _ p) (and_r (not (y ⊕ (o ⊕ odd n v))) _ q) (and_r (not (z ⊕ (o ⊕ odd n w))) _ r))
 
   -- the check's sequences start with the same bits
   lead-three : (l a b c : List Bool) → l ++ (a ⊞ (b ⊞ c)) ≡ (l ++ a) ⊞ ((l ++ b) ⊞ (l ++ c))
@@ -124,20 +122,15 @@ module _ (u v w : List Bool) (h : length u ≡ length v) (k : length v ≡ lengt
   unfolding keeps
   keeps-three ks r p q s =
       let lvw : length u ≡ length (v ⊞ w) = h ∙ sym (length-⊞ v w k) in
-      let e : free_bits ks (u ⊞ (v ⊞ w)) ≡ free_bits ks u ⊞ (free_bits ks v ⊞ free_bits ks w) =
-      free-⊞ ks u (v ⊞ w) lvw ∙ ap (λ (t : List Bool). free_bits ks u ⊞ t) (free-⊞ ks v w k) in
+      let e : free_bits ks (u ⊞ (v ⊞ w)) ≡ free_bits ks u ⊞ (free_bits ks v ⊞ free_bits ks w) = free-⊞ ks u (v ⊞ w) lvw ∙ ap (λ (t : List Bool). free_bits ks u ⊞ t) (free-⊞ ks v w k) in
       let front : List Bool → List Bool = λ f. leads r ++ f in
-      let luv : length (front (free_bits ks u)) ≡ length (front (free_bits ks v)) =
-      simp length-append (ap (λ (m : ℕ). length (leads r) + m) (same-free ks u v h)) in
-      let lw : length (front (free_bits ks v)) ≡ length (front (free_bits ks w)) =
-      simp length-append (ap (λ (m : ℕ). length (leads r) + m) (same-free ks v w k)) in
+      let luv : length (front (free_bits ks u)) ≡ length (front (free_bits ks v)) = simp length-append (ap (λ (m : ℕ). length (leads r) + m) (same-free ks u v h)) in
+      let lw : length (front (free_bits ks v)) ≡ length (front (free_bits ks w)) = simp length-append (ap (λ (m : ℕ). length (leads r) + m) (same-free ks v w k)) in
       and_i _ _
       (rules-three ks u v w h k (and_l _ _ p) (and_l _ _ q) (and_l _ _ s))
-      (rw (e, lead-three (leads r) (free_bits ks u) (free_bits ks v) (free_bits ks w))
-      (divides-⊞ r (front (free_bits ks u)) (front (free_bits ks v) ⊞ front (free_bits ks w))
+      (rw (e, lead-three (leads r) (free_bits ks u) (free_bits ks v) (free_bits ks w)) (divides-⊞ r (front (free_bits ks u)) (front (free_bits ks v) ⊞ front (free_bits ks w))
       (luv ∙ sym (length-⊞ (front (free_bits ks v)) (front (free_bits ks w)) lw))
-      (and_r (keeps_rules ks u u) _ p)
-      (divides-⊞ r (front (free_bits ks v)) (front (free_bits ks w)) lw (and_r (keeps_rules ks v v) _ q) (and_r (keeps_rules ks w w) _ s))))
+      (and_r (keeps_rules ks u u) _ p) (divides-⊞ r (front (free_bits ks v)) (front (free_bits ks w)) lw (and_r (keeps_rules ks v v) _ q) (and_r (keeps_rules ks w w) _ s))))
 
 -- ---- agreement
 
@@ -164,8 +157,7 @@ clear-agrees [] x y l p q = refl
 clear-agrees (s ∷ w) [] y l p q = refl
 clear-agrees (s ∷ w) (a ∷ x) [] l p q = refl
 clear-agrees (s ∷ w) (a ∷ x) (b ∷ y) l p q =
-    and_i _ _ (one s a b (and_l _ (clear (map erased w) x) p) (and_l _ (agrees w y) q))
-    (clear-agrees w x y (suc_inj l) (and_r (erased s || not a) _ p) (and_r (fits s b) _ q))
+    and_i _ _ (one s a b (and_l _ (clear (map erased w) x) p) (and_l _ (agrees w y) q)) (clear-agrees w x y (suc_inj l) (and_r (erased s || not a) _ p) (and_r (fits s b) _ q))
   where
     one : (t : ℕ) (c d : Bool) → erased t || not c ≡ true → fits t d ≡ true → fits t (c ⊕ d) ≡ true
     one zero false d h k = k

@@ -30,8 +30,7 @@ rises_polar n (u ∷ l) h r = (below l (λ v m. h v (Memᴰ.tail m)) r.0, rises_
   where
     below : (m : List (List Bool)) → ((v : List Bool) → Memᴰ v m → length v ≡ 2 ^ n) → Below Before u m → Below (Earlier n) (polar n u) (map (polar n) m)
     below [] k b = tt
-    below (v ∷ m) k b =
-        (rw (polar-polar n u (h u (Memᴰ.head refl)), polar-polar n v (k v (Memᴰ.head refl))) b.0, below m (λ t q. k t (Memᴰ.tail q)) b.1)
+    below (v ∷ m) k b = (rw (polar-polar n u (h u (Memᴰ.head refl)), polar-polar n v (k v (Memᴰ.head refl))) b.0, below m (λ t q. k t (Memᴰ.tail q)) b.1)
 
 -- two lists of codewords that rise and have the same members are equal
 pub earlier_unique : (n : ℕ) (l m : List (List Bool)) → Rises (Earlier n) l → Rises (Earlier n) m → ((x : List Bool) → Memᴰ x l ↔ Memᴰ x m) → l ≡ m

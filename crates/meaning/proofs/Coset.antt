@@ -22,10 +22,10 @@ use Rattle.meaning.proofs.Polar.{polar-⊞, length-polar}
 
 module _ (n : ℕ) (ks : List Rule) (r : ℕ) where
   -- u and a pass for w, b for w': u + (a + b) passes for w'
-  pub passes_shifted : (w w' : List ℕ) → map erased w ≡ map erased w' → (u a b : List Bool) → length u ≡ 2 ^ n → length a ≡ 2 ^ n → length b ≡ 2 ^ n
+  pub moves : (w w' : List ℕ) → map erased w ≡ map erased w' → (u a b : List Bool) → length u ≡ 2 ^ n → length a ≡ 2 ^ n → length b ≡ 2 ^ n
       → passes n ks r w u ≡ true → passes n ks r w a ≡ true → passes n ks r w' b ≡ true → passes n ks r w' (u ⊞ (a ⊞ b)) ≡ true
   unfolding passes
-  passes_shifted w w' e u a b lu la lb p q s =
+  moves w w' e u a b lu la lb p q s =
       let lab : length (a ⊞ b) ≡ 2 ^ n = length-⊞ a b (la ∙ sym lb) ∙ la in
       let lxa = length-⊞ (polar n u) (polar n a) (length-polar n u lu ∙ sym (length-polar n a la)) ∙ length-polar n u lu in
       let x : polar n (u ⊞ (a ⊞ b)) ≡ polar n u ⊞ polar n a ⊞ polar n b =
@@ -41,12 +41,11 @@ module _ (n : ℕ) (ks : List Rule) (r : ℕ) where
       let (a, la, pa, ea) = candidate n ks r w x mx in
       let (b, lb, pb, eb) = candidate n ks r w' y my in
       let ld : length (a ⊞ b) ≡ 2 ^ n = length-⊞ a b (la ∙ sym lb) ∙ la in
-      let back : (u : List Bool) → length u ≡ 2 ^ n → u ⊞ (a ⊞ b) ⊞ (b ⊞ a) ≡ u =
-      λ u lu. ap (λ (t : List Bool). u ⊞ (a ⊞ b) ⊞ t) (⊞-comm b a) ∙ ⊞-cancel u (a ⊞ b) (lu ∙ sym ld) in
+      let back : (u : List Bool) → length u ≡ 2 ^ n → u ⊞ (a ⊞ b) ⊞ (b ⊞ a) ≡ u = λ u lu. ap (λ (t : List Bool). u ⊞ (a ⊞ b) ⊞ t) (⊞-comm b a) ∙ ⊞-cancel u (a ⊞ b) (lu ∙ sym ld) in
       rw (length-candidates, length-candidates)
       (count_bits (passes n ks r w) (λ (u : List Bool). passes n ks r w' (u ⊞ (a ⊞ b))) (2 ^ n)
-      (λ u lu. bool_ext _ _ (λ p. passes_shifted w w' e u a b lu la lb p pa pb)
-      (λ p. rw (back u lu) at (passes_shifted w' w (sym e) (u ⊞ (a ⊞ b)) b a (length-⊞ u (a ⊞ b) (lu ∙ sym ld) ∙ lu) lb la p pb pa)))
+      (λ u lu. bool_ext _ _ (λ p. moves w w' e u a b lu la lb p pa pb)
+      (λ p. rw (back u lu) at (moves w' w (sym e) (u ⊞ (a ⊞ b)) b a (length-⊞ u (a ⊞ b) (lu ∙ sym ld) ∙ lu) lb la p pb pa)))
       ∙ count-shift (passes n ks r w') (2 ^ n) (a ⊞ b) ld)
 
 -- ---- settled places
@@ -69,8 +68,7 @@ both_values cs j h = go (all (λ (x : List Bool). get_or x j false) cs) (all (λ
         let t = not-all (λ (x : List Bool). not (get_or x j false)) cs q in
         (t.0, s.0, t.1, s.1, sym (not-not (get_or t.0 j false)) ∙ ap not t.2, s.2)
 
-pub values_both : (cs : List (List Bool)) (j : ℕ) (x y : List Bool) → Memᴰ x cs
-    → Memᴰ y cs → get_or x j false ⊕ get_or y j false ≡ true → settled_at cs j ≡ 2
+pub values_both : (cs : List (List Bool)) (j : ℕ) (x y : List Bool) → Memᴰ x cs → Memᴰ y cs → get_or x j false ⊕ get_or y j false ≡ true → settled_at cs j ≡ 2
 values_both cs j x y mx my d = go (all (λ (x : List Bool). get_or x j false) cs) (all (λ (x : List Bool). not (get_or x j false)) cs) refl refl
   where
     off : (v : List Bool) → not (get_or v j false) ≡ true → get_or v j false ≡ false
@@ -80,14 +78,10 @@ values_both cs j x y mx my d = go (all (λ (x : List Bool). get_or x j false) cs
     go true b p q =
         absurd (false≢true (rw (all_mem (λ (x : List Bool). get_or x j false) mx p, all_mem (λ (x : List Bool). get_or x j false) my p) at d))
     go false true p q =
-        absurd (false≢true (rw (
-          off x (all_mem (λ (x : List Bool). not (get_or x j false)) mx q),
-          off y (all_mem (λ (x : List Bool). not (get_or x j false)) my q),
-        ) at d))
+        absurd (false≢true (rw (off x (all_mem (λ (x : List Bool). not (get_or x j false)) mx q), off y (all_mem (λ (x : List Bool). not (get_or x j false)) my q)) at d))
     go false false p q = refl
 
-module _ (n : ℕ) (ks : List Rule) (r : ℕ) (w w' : List ℕ) (e : map erased w ≡ map erased w')
-    (c c' : List Bool) (m : Memᴰ c (candidates n ks r w)) (m' : Memᴰ c' (candidates n ks r w')) where
+module _ (n : ℕ) (ks : List Rule) (r : ℕ) (w w' : List ℕ) (e : map erased w ≡ map erased w') (c c' : List Bool) (m : Memᴰ c (candidates n ks r w)) (m' : Memᴰ c' (candidates n ks r w')) where
   -- a place that is not settled for w is not settled for w'
   pub unsettled : (j : ℕ) → settled_at (candidates n ks r w) j ≡ 2 → settled_at (candidates n ks r w') j ≡ 2
   unsettled j h =
@@ -101,11 +95,10 @@ module _ (n : ℕ) (ks : List Rule) (r : ℕ) (w w' : List ℕ) (e : map erased 
       let at : (t z : List Bool) → length t ≡ 2 ^ n → polar n t ≡ z → get_or (polar n (t ⊞ d)) j false ≡ get_or z j false ⊕ get_or (polar n d) j false =
       λ t z lt et. rw (polar-⊞ n t d lt ld, ← et) (get_or-⊞ (polar n t) (polar n d) j (length-polar n t lt ∙ sym (length-polar n d ld))) in
       values_both (candidates n ks r w') j (polar n (u ⊞ d)) (polar n (v ⊞ d))
-      (is_candidate n ks r w' (u ⊞ d) (length-⊞ u d (lu ∙ sym ld) ∙ lu) (passes_shifted n ks r w w' e u a b lu la lb pu pa pb))
-      (is_candidate n ks r w' (v ⊞ d) (length-⊞ v d (lv ∙ sym ld) ∙ lv) (passes_shifted n ks r w w' e v a b lv la lb pv pa pb))
+      (is_candidate n ks r w' (u ⊞ d) (length-⊞ u d (lu ∙ sym ld) ∙ lu) (moves n ks r w w' e u a b lu la lb pu pa pb))
+      (is_candidate n ks r w' (v ⊞ d) (length-⊞ v d (lv ∙ sym ld) ∙ lv) (moves n ks r w w' e v a b lv la lb pv pa pb))
       (rw (at u x lu eu, at v y lv ev, ex, ey) (not-⊕ (get_or (polar n d) j false)))
 
-pub same-settled : (n : ℕ) (ks : List Rule) (r : ℕ) (w w' : List ℕ) → map erased w ≡ map erased w'
-    → (c c' : List Bool) → Memᴰ c (candidates n ks r w) → Memᴰ c' (candidates n ks r w')
+pub same-settled : (n : ℕ) (ks : List Rule) (r : ℕ) (w w' : List ℕ) → map erased w ≡ map erased w' → (c c' : List Bool) → Memᴰ c (candidates n ks r w) → Memᴰ c' (candidates n ks r w')
     → (j : ℕ) → (settled_at (candidates n ks r w) j ≡ 2) ↔ (settled_at (candidates n ks r w') j ≡ 2)
 same-settled n ks r w w' e c c' m m' j = (unsettled n ks r w w' e c c' m m' j, unsettled n ks r w' w (sym e) c' c m' m j)

@@ -11,8 +11,7 @@ use mathlib.Core.Path.{◌≡◌, refl, sym, ap, ap₂, ◌∙◌}
 use mathlib.Core.Logic.{◌⊎◌, inl, inr}
 use Prim.Native.Nat.{ℕ, suc, min, ◌+◌, ◌-◌, ◌*◌, ◌/◌, ◌%◌, ◌≤◌, ◌<◌}
 use native.Mathlib.Omega.{arith}
-use native.Mathlib.Nat.{div-zero, div-eq_of_lt, add-div_right, div-le_self, le-div_iff_mul-le}
-use native.Mathlib.Nat.{div-lt_iff_lt-mul, mul-add-div_right, add-zero, add-mul, div-add-mod'}
+use native.Mathlib.Nat.{div-zero, div-eq_of_lt, add-div_right, div-le_self, le-div_iff_mul-le, div-lt_iff_lt-mul, mul-add-div_right, add-zero, add-mul, div-add-mod'}
 use mathlib.Core.List.{List, [], ◌∷◌, ◌++◌, map, flatten, append_assoc}
 use lib.ListN.{length, take, drop, length-append, length-drop}
 use lib.Seq.{take_all, take-append-le, drop-append-le, drop-append-add}
@@ -93,9 +92,7 @@ take_min k l = go (le_or_lt k (length l))
   where
     go : (k ≤ length l) ⊎ (length l < k) → take (min k (length l)) l ≡ take k l
     go (inl h) = ap (λ (j : ℕ). take j l) (let e : min k (length l) ≡ k = omega arith in e)
-    go (inr h) =
-        ap (λ (j : ℕ). take j l) (let e : min k (length l) ≡ length l = omega arith in e)
-        ∙ take_all (length l) l (omega arith) ∙ sym (take_all k l (omega arith))
+    go (inr h) = ap (λ (j : ℕ). take j l) (let e : min k (length l) ≡ length l = omega arith in e) ∙ take_all (length l) l (omega arith) ∙ sym (take_all k l (omega arith))
 
 pub piece_is : (L : ℕ) (input : List ℕ) (i e : ℕ) → e ≡ piece_end L (length input) i → take (e - i * L) (drop (i * L) input) ≡ piece_at L input i
 unfolding piece_at piece_end
@@ -131,14 +128,12 @@ module _ (L : ℕ) (p : 0 < L) (a b : List ℕ) (m : ℕ) (la : length a ≡ m *
       ap (λ (k : ℕ). (k + (L - 1)) / L) la ∙ mul-add-div_right p m (L - 1) ∙ ap (λ (k : ℕ). m + k) (div-eq_of_lt l) ∙ add-zero m
 
   pub pieces_cut : {A : Type 0} (f : List ℕ → A)
-      → tab (rounded_up (length (a ++ b)) L) (λ (k : ℕ). f (piece_at L (a ++ b) k))
-      ≡ tab (rounded_up (length a) L) (λ (k : ℕ). f (piece_at L a k)) ++ tab (rounded_up (length b) L) (λ (k : ℕ). f (piece_at L b k))
+      → tab (rounded_up (length (a ++ b)) L) (λ (k : ℕ). f (piece_at L (a ++ b) k)) ≡ tab (rounded_up (length a) L) (λ (k : ℕ). f (piece_at L a k)) ++ tab (rounded_up (length b) L) (λ (k : ℕ). f (piece_at L b k))
   pieces_cut {A} f =
       let g : List ℕ → ℕ → A = λ c k. f (piece_at L c k) in
       let kb : ℕ = rounded_up (length b) L in
       ap (λ (k : ℕ). tab k (g (a ++ b))) count_cut ∙ tab_append m kb (g (a ++ b))
-      ∙ ap₂ {C = List A} ◌++◌ (tab_below m (g (a ++ b)) (g a) (λ i l. ap f (piece_front i l)) ∙ ap (λ (k : ℕ). tab k (g a)) (sym count-whole))
-      (tab_below kb (λ (i : ℕ). g (a ++ b) (m + i)) (g b) (λ i l. ap f (piece_back i)))
+      ∙ ap₂ {C = List A} ◌++◌ (tab_below m (g (a ++ b)) (g a) (λ i l. ap f (piece_front i l)) ∙ ap (λ (k : ℕ). tab k (g a)) (sym count-whole)) (tab_below kb (λ (i : ℕ). g (a ++ b) (m + i)) (g b) (λ i l. ap f (piece_back i)))
 
 -- ---- any number of parts
 
@@ -152,8 +147,7 @@ module _ {A : Type 0} (L : ℕ) (p : 0 < L) (f : List ℕ → A) where
   abbrev pub each_piece : List ℕ → List A
   each_piece input = tab (rounded_up (length input) L) (λ (k : ℕ). f (piece_at L input k))
 
-  pub pieces_all : (parts : List (List ℕ)) (last : List ℕ) → WholePieces L parts
-      → each_piece (flatten parts ++ last) ≡ flatten (map each_piece parts) ++ each_piece last
+  pub pieces_all : (parts : List (List ℕ)) (last : List ℕ) → WholePieces L parts → each_piece (flatten parts ++ last) ≡ flatten (map each_piece parts) ++ each_piece last
   unfolding flatten
   pieces_all [] last w = refl
   pieces_all (a ∷ parts) last w =
@@ -171,7 +165,6 @@ module _ (L : ℕ) (p : 0 < L) (f : List ℕ → List ℕ) (g : List ℕ → Lis
       each [] = refl
       each (a ∷ parts) = ap₂ {C = List (List ℕ)} ◌++◌ (sym (e a)) (each parts)
 
-  pub cut_flat : (parts : List (List ℕ)) (last : List ℕ) → WholePieces L parts
-      → flatten (g (flatten parts ++ last)) ≡ flatten (map (λ (a : List ℕ). flatten (g a)) parts) ++ flatten (g last)
+  pub cut_flat : (parts : List (List ℕ)) (last : List ℕ) → WholePieces L parts → flatten (g (flatten parts ++ last)) ≡ flatten (map (λ (a : List ℕ). flatten (g a)) parts) ++ flatten (g last)
   cut_flat parts last w =
       ap flatten (cut_list parts last w) ∙ flatten_append (flatten (map g parts)) (g last) ∙ ap (λ (t : List ℕ). t ++ flatten (g last)) (flatten_each g parts)

@@ -2,7 +2,6 @@
 -- Standing premise: no fault of form, and room to answer, so that no refusal but 18 applies; the sheet has K at least 1.
 --     verdict-settled      the first strip, place by place
 --     by_form              the table of form is tried first, then 18, then the verdict
---     formed_decides       where that table refuses nothing, 18 or the verdict is left: deciding_over, deciding_under
 --     over, under          over the ceiling, decoding is 18, and under it the verdict on the candidates
 --     over_iff             18 exactly when g passes the ceiling
 --     unique_iff           unique exactly when one codeword agrees
@@ -19,15 +18,16 @@ use mathlib.Core.List.{List, [], ◌∷◌, ◌++◌, map, Memᴰ, append_assoc}
 use lib.ListN.{length, drop, get_or, get_or-append}
 use lib.Dec.{ltb}
 use lib.Pow.{pow_pos}
-use borrow.Author.Tests.{ltb-true, ltb-false}
+use borrow.Author.Tests.{ltb-true, ltb-false, lt-ltb, le-ltb}
+use Rattle.bits.specs.Vectors.{pick}
 use Rattle.bits.proofs.Tests.{length-tab, tab-at}
 use Rattle.meaning.specs.Sheet.{Rule, rules}
 use Rattle.meaning.specs.Codewords.{erased, candidates}
 use Rattle.meaning.specs.Open.{open_all, unknowns, equations}
 use Rattle.meaning.specs.Strips.{log2, dimension, settled, settled_at, first, last, strips}
-use Rattle.meaning.specs.Answers.{numbersOf, first_of, refuses, formRefusals, decodeRefusals, Reply, leaving, verdict, deciding, decoding}
+use Rattle.meaning.specs.Answers.{numbersOf, first_of, refuses, formRefusals, decodeRefusals, Reply, leaving, verdict, decoding}
 use Rattle.meaning.specs.declared.Answer.TheVariants.{TooMany}
-use Rattle.meaning.proofs.Refusals.{first_append, first-none, sized_over, sized_under}
+use Rattle.meaning.proofs.Refusals.{first_append, first-none}
 use Rattle.meaning.proofs.Dimension.{dimension_pow, dimension-is}
 use Rattle.meaning.proofs.Coset.{same_number, same-settled}
 
@@ -80,8 +80,7 @@ module _ (n g m : ℕ) (out : List ℕ) where
       let t : List ℕ = settled (2 ^ n) cs in
       let lt : length t ≡ 2 ^ n = length-tab (2 ^ n) (settled_at cs) in
       let e : (verdict n g m cs out).bytes ≡ t ++ (first cs ++ (last cs ++ drop (length (strips n cs)) out)) =
-      verdict_shown cs h ∙ append_assoc (t ++ first cs) (last cs) (drop (length (strips n cs)) out)
-      ∙ append_assoc t (first cs) (last cs ++ drop (length (strips n cs)) out) in
+      verdict_shown cs h ∙ append_assoc (t ++ first cs) (last cs) (drop (length (strips n cs)) out) ∙ append_assoc t (first cs) (last cs ++ drop (length (strips n cs)) out) in
       ap (λ (b : List ℕ). get_or b j 0) e ∙ get_or-append t _ 0 j (omega arith) ∙ tab-at (2 ^ n) (settled_at cs) j 0 l
 
 pub code_one : (k : ℕ) → code_by k ≡ 0 → k ≡ 1
@@ -94,15 +93,15 @@ code-none zero h = refl
 code-none (suc zero) h = absurd (omega arith)
 code-none (suc (suc k)) h = absurd (omega arith)
 
-pub code-more : (k : ℕ) → code_by k ≡ 1 → (1 < k) × (d_by k ≡ log2 k k)
-code-more zero h = absurd (omega arith)
-code-more (suc zero) h = absurd (omega arith)
-code-more (suc (suc k)) h = (omega arith, refl)
+pub code_more : (k : ℕ) → code_by k ≡ 1 → (1 < k) × (d_by k ≡ log2 k k)
+code_more zero h = absurd (omega arith)
+code_more (suc zero) h = absurd (omega arith)
+code_more (suc (suc k)) h = (omega arith, refl)
 
-more-code : (k : ℕ) → 1 < k → (code_by k ≡ 1) × (d_by k ≡ log2 k k)
-more-code zero h = absurd (omega arith)
-more-code (suc zero) h = absurd (omega arith)
-more-code (suc (suc k)) h = (refl, refl)
+more_code : (k : ℕ) → 1 < k → (code_by k ≡ 1) × (d_by k ≡ log2 k k)
+more_code zero h = absurd (omega arith)
+more_code (suc zero) h = absurd (omega arith)
+more_code (suc (suc k)) h = (refl, refl)
 
 pub code-small : (k : ℕ) → code_by k ≤ 1 → 0 < k
 code-small zero h = absurd (omega arith)
@@ -128,29 +127,25 @@ module _ (n : ℕ) (s : List ℕ) (r c : ℕ) (w out : List ℕ) where
   abbrev cs : List (List Bool)
   cs = candidates n ks r w
 
-  pub by_form : decoding n s r c w out ≡ first_of (leaving out) (formRefusals n s r c w (length out)) (deciding n s r c w out)
-  unfolding decoding decodeRefusals deciding
+  -- what stands after the table of form: 18, or the verdict
+  abbrev pub decided : Reply
+  decided = pick (ltb c g) (leaving out (TooMany g)) (verdict n g m cs out)
+
+  pub by_form : decoding n s r c w out ≡ first_of (leaving out) (formRefusals n s r c w (length out)) decided
+  unfolding decoding decodeRefusals
   by_form = first_append (leaving out) (formRefusals n s r c w (length out)) _ (verdict n g m cs out)
-
-  pub deciding_over : c < g → deciding n s r c w out ≡ leaving out (TooMany g)
-  unfolding deciding
-  deciding_over h = sized_over c g out _ h
-
-  pub deciding_under : g ≤ c → deciding n s r c w out ≡ verdict n g m cs out
-  unfolding deciding
-  deciding_under h = sized_under c g out _ h
 
   -- ---- no fault of form
 
   module _ (ok : refuses (formRefusals n s r c w (length out)) ≡ false) where
-    pub formed_decides : decoding n s r c w out ≡ deciding n s r c w out
-    formed_decides = by_form ∙ first-none (leaving out) (formRefusals n s r c w (length out)) _ ok
+    judged : decoding n s r c w out ≡ decided
+    judged = by_form ∙ first-none (leaving out) (formRefusals n s r c w (length out)) _ ok
 
     pub over : c < g → decoding n s r c w out ≡ leaving out (TooMany g)
-    over h = formed_decides ∙ deciding_over h
+    over h = judged ∙ rw (lt-ltb c g h)
 
     pub under : g ≤ c → decoding n s r c w out ≡ verdict n g m cs out
-    under h = formed_decides ∙ deciding_under h
+    under h = judged ∙ rw (le-ltb c g h)
 
     numbers_under : g ≤ c → numbersOf (decoding n s r c w out).answer ≡ code_by (length cs) ∷ 0 ∷ g ∷ m ∷ d_by (length cs) ∷ []
     numbers_under h = ap (λ (a : Reply). numbersOf a.answer) (under h) ∙ verdict_numbers n g m out cs
@@ -174,11 +169,11 @@ module _ (n : ℕ) (s : List ℕ) (r c : ℕ) (w out : List ℕ) where
       unfolding dimension
       ambiguous_iff d = (
         λ e.
-            let (l, k) = code-more (length cs) (at 0 (sym (numbers_under h) ∙ e)) in
+            let (l, k) = code_more (length cs) (at 0 (sym (numbers_under h) ∙ e)) in
             let p : length cs ≡ 2 ^ d = dimension-is n ks r w (omega arith) ∙ ap (λ (x : ℕ). 2 ^ x) (sym k ∙ at 4 (sym (numbers_under h) ∙ e)) in
             (positive d p l, p),
         λ (l, p).
-            let q = more-code (length cs) (rw p (two d l)) in
+            let q = more_code (length cs) (rw p (two d l)) in
             numbers_under h ∙ ap₂ {C = List ℕ} (λ (x y : ℕ). x ∷ 0 ∷ g ∷ m ∷ y ∷ []) q.0 (q.1 ∙ dimension_pow cs d p),
       )
         where
@@ -201,8 +196,7 @@ pub record SameFate (n : ℕ) (a b : Reply) : Type 0 where
   pub over : (code a ≡ 18) ↔ (code b ≡ 18)
   pub unknowns : g_of_lem a ≡ g_of_lem b
   pub equations : m_of_lem a ≡ m_of_lem b
-  pub accepted : code a ≤ 1 → code b ≤ 1 → (code a ≡ code b) × (d_of_lem a ≡ d_of_lem b)
-      × ((j : ℕ) → j < 2 ^ n → (get_or a.bytes j 0 ≡ 2) ↔ (get_or b.bytes j 0 ≡ 2))
+  pub accepted : code a ≤ 1 → code b ≤ 1 → (code a ≡ code b) × (d_of_lem a ≡ d_of_lem b) × ((j : ℕ) → j < 2 ^ n → (get_or a.bytes j 0 ≡ 2) ↔ (get_or b.bytes j 0 ≡ 2))
 
 pub head_in : (cs : List (List Bool)) → 0 < length cs → (x : List Bool) × Memᴰ x cs
 head_in [] h = absurd (omega arith)
@@ -249,8 +243,8 @@ module _ (n : ℕ) (s : List ℕ) (r : ℕ) (w w' : List ℕ) (e : map erased w 
       }
 
       -- neither over
-      verdicts-same_fate : SameFate n (verdict n g₁ m₁ cs₁ out) (verdict n g₂ m₂ cs₂ out')
-      verdicts-same_fate =
+      told : SameFate n (verdict n g₁ m₁ cs₁ out) (verdict n g₂ m₂ cs₂ out')
+      told =
           let a = verdict_numbers n g₁ m₁ out cs₁ in
           let b = verdict_numbers n g₂ m₂ out' cs₂ in
           record {
@@ -275,4 +269,4 @@ module _ (n : ℕ) (s : List ℕ) (r : ℕ) (w w' : List ℕ) (e : map erased w 
 
       go : (b : Bool) → ltb c g₁ ≡ b → SameFate n (decoding n s r c w out) (decoding n s r c w' out')
       go true q = rw (over n s r c w out ok (ltb-true c g₁ q), over n s r c w' out' ok' (rw same-unknowns at (ltb-true c g₁ q))) refused
-      go false q = rw (under n s r c w out ok (ltb-false c g₁ q), under n s r c w' out' ok' (rw same-unknowns at (ltb-false c g₁ q))) verdicts-same_fate
+      go false q = rw (under n s r c w out ok (ltb-false c g₁ q), under n s r c w' out' ok' (rw same-unknowns at (ltb-false c g₁ q))) told

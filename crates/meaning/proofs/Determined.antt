@@ -14,11 +14,9 @@ use Rattle.bits.specs.Vectors.{first_place}
 use Rattle.meaning.specs.Limits.{largest_ceiling}
 use Rattle.meaning.specs.Sheet.{rules, bad_record, frees}
 use Rattle.meaning.specs.Open.{unknowns}
-use Rattle.meaning.specs.Answers.{Refusal, ◌⇒◌, Reply, reply, leaving, first_of, refuses, badShape, badCheck, sheetRefusals, wordRefusals}
-use Rattle.meaning.specs.Answers.{formRefusals, encodeRefusals, readRefusals, decodeRefusals, encoding, readingBack, decoding}
+use Rattle.meaning.specs.Answers.{Refusal, ◌⇒◌, Reply, reply, leaving, first_of, refuses, badShape, badCheck, sheetRefusals, wordRefusals, formRefusals, encodeRefusals, readRefusals, decodeRefusals, encoding, readingBack, decoding}
 use Rattle.meaning.specs.declared.Answer.{Answer}
-use Rattle.meaning.specs.declared.Answer.TheVariants.{BadShape, BadRecord, BadCheck, BadLength, BadSymbol}
-use Rattle.meaning.specs.declared.Answer.TheVariants.{ShortOutput, BadCeiling, TooMany, HoldsNothing}
+use Rattle.meaning.specs.declared.Answer.TheVariants.{BadShape, BadRecord, BadCheck, BadLength, BadSymbol, ShortOutput, BadCeiling, TooMany, HoldsNothing}
 use Rattle.meaning.proofs.Refusals.{refused_untouched, in_order}
 
 pub determined : {A : Type 0} (x y meant : A) → x ≡ meant → y ≡ meant → x ≡ y

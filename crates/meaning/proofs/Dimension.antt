@@ -32,7 +32,5 @@ pub dimension_pow : (cs : List (List Bool)) (d : ℕ) → length cs ≡ 2 ^ d �
 unfolding dimension
 dimension_pow cs d e = rw e (log2_pow (2 ^ d) d (below_pow d))
 
-pub dimension-is : (n : ℕ) (ks : List Rule) (r : ℕ) (w : List ℕ) → 0 < length (candidates n ks r w)
-    → length (candidates n ks r w) ≡ 2 ^ dimension (candidates n ks r w)
-dimension-is n ks r w h =
-    ⊎_elim (λ e. absurd (omega arith)) (λ (d, e). e ∙ ap (λ (k : ℕ). 2 ^ k) (sym (dimension_pow (candidates n ks r w) d e))) (power_of_two n ks r w)
+pub dimension-is : (n : ℕ) (ks : List Rule) (r : ℕ) (w : List ℕ) → 0 < length (candidates n ks r w) → length (candidates n ks r w) ≡ 2 ^ dimension (candidates n ks r w)
+dimension-is n ks r w h = ⊎_elim (λ e. absurd (omega arith)) (λ (d, e). e ∙ ap (λ (k : ℕ). 2 ^ k) (sym (dimension_pow (candidates n ks r w) d e))) (power_of_two n ks r w)

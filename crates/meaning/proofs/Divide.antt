@@ -10,7 +10,7 @@ use mathlib.Core.Bool.{Bool, true, false, ◌&&◌}
 use mathlib.Core.List.{List, [], ◌∷◌, ◌++◌, map, append_assoc, append-nil, map-id}
 use lib.ListN.{length, replicate, length-append, length-map}
 use Rattle.bits.specs.Vectors.{◌⊞◌, zeros}
-use Rattle.bits.proofs.Xor.{⊕-false, ⊞-comm, ⊞-cancel, length-⊞, none, ⊞-none, length_none, ⊞-self, is-none, zeros-none}
+use Rattle.bits.proofs.Xor.{⊕-false, ⊞-comm, ⊞-cancel, length-⊞, none, ⊞-none, length_none, ⊞-self, is_none, zeros-none}
 use Rattle.meaning.specs.Check.{shift, rest, poly, divides}
 use Rattle.meaning.proofs.Affine.{rest-⊞}
 use Rattle.meaning.proofs.Remainder.{length-poly, rest_append, rest_fills, scale_none, length_rest}
@@ -94,16 +94,14 @@ module _ (g : List Bool) where
 
   pub R-⊞ : (u v : List Bool) → length u ≡ length v → R (u ⊞ v) ≡ R u ⊞ R v
   R-⊞ u v h =
-      ap (λ (s : List Bool). rest g s (u ⊞ v)) (sym (⊞-none (none (length g)) (length g) (length_none (length g))))
-      ∙ rest-⊞ g (none (length g)) (none (length g)) u v refl h
+      ap (λ (s : List Bool). rest g s (u ⊞ v)) (sym (⊞-none (none (length g)) (length g) (length_none (length g)))) ∙ rest-⊞ g (none (length g)) (none (length g)) u v refl h
 
   -- the highest bit of f and what it takes away
   R-step : (b : Bool) (k : ℕ) (f : List Bool) → length f ≡ length g + k → R (b ∷ ((scale b g ++ none k) ⊞ f)) ≡ R f
   R-step b k f h =
       let l : length (scale b g ++ none k) ≡ length f = length_scale b k ∙ sym h in
       ap (λ (t : Bool). R (t ∷ ((scale b g ++ none k) ⊞ f))) (sym (⊕-false b)) ∙ R-⊞ (b ∷ (scale b g ++ none k)) (false ∷ f) (ap suc l)
-      ∙ ap₂ ◌⊞◌ (R-scale b k) (R-false f) ∙ ⊞-comm (none (length g)) (R f)
-      ∙ ⊞-none (R f) (length g) (length_rest g (none (length g)) f (length_none (length g)))
+      ∙ ap₂ ◌⊞◌ (R-scale b k) (R-false f) ∙ ⊞-comm (none (length g)) (R f) ∙ ⊞-none (R f) (length g) (length_rest g (none (length g)) f (length_none (length g)))
 
   pub R-times : (q : List Bool) → R (times g q) ≡ none (length g)
   R-times [] = R-none (length g)
@@ -130,6 +128,6 @@ divides_iff r k f lf =
     let g : List Bool = poly r in
     let e : rest g (replicate r false) f ≡ rest g (none (length g)) f = ap (λ (m : ℕ). rest g (replicate m false) f) (sym lr) in
     let l = length_rest g (none (length g)) f (length_none (length g)) in (
-      λ h. quotient g k f (omega arith) (is-none (rest g (none (length g)) f) (sym (ap zeros e) ∙ h) ∙ ap none l),
+      λ h. quotient g k f (omega arith) (is_none (rest g (none (length g)) f) (sym (ap zeros e) ∙ h) ∙ ap none l),
       λ (q, lq, eq). ap zeros (e ∙ ap (rest g (none (length g))) eq ∙ R-times g q) ∙ zeros-none (length g),
     )

@@ -1,7 +1,7 @@
 -- Of each payload there is one codeword: the check bits are the payload's remainder after shifting by r, and the frozen bits follow.
 --     keeps-place, place_unique          the rules give one vector for given free bits
 --     encoded-keeps, encoded_unique      the u of a payload keeps rules and check, and is the only one
---     carrying-one     the list of codewords with a payload has one member
+--     carrying_one     the list of codewords with a payload has one member
 use mathlib.Core.Path.{◌≡◌, refl, sym, ap, ap₂, ◌∙◌, subst}
 use Prim.Native.Nat.{ℕ, suc, ◌+◌, ◌^◌, ◌-◌}
 use native.Mathlib.Omega.{arith}
@@ -65,18 +65,15 @@ keeps-place (frozen o m ∷ ks) c f h =
     let b : Bool = o ⊕ odd m c in
     let v : List Bool = place ks (c ++ (b ∷ [])) f in
     and_i _ _ (⊕-eq b (o ⊕ odd m (c ++ b ∷ v)) (ap (λ (t : Bool). o ⊕ t) (sym (odd_here m c (b ∷ v) (and_l _ _ h)))))
-    (subst (λ (t : List Bool). keeps_rules ks t v ≡ true) (append_assoc c (b ∷ []) v)
-    (keeps-place ks (c ++ (b ∷ [])) f (rw next (and_r (zeros (drop (length c) m)) _ h))))
+    (subst (λ (t : List Bool). keeps_rules ks t v ≡ true) (append_assoc c (b ∷ []) v) (keeps-place ks (c ++ (b ∷ [])) f (rw next (and_r (zeros (drop (length c) m)) _ h))))
 
-pub place_unique : (ks : List Rule) (c v : List Bool) → early (length c) ks ≡ true
-    → length v ≡ length ks → keeps_rules ks (c ++ v) v ≡ true → v ≡ place ks c (free_bits ks v)
+pub place_unique : (ks : List Rule) (c v : List Bool) → early (length c) ks ≡ true → length v ≡ length ks → keeps_rules ks (c ++ v) v ≡ true → v ≡ place ks c (free_bits ks v)
 unfolding place
 place_unique [] c [] h l k = refl
 place_unique [] c (b ∷ v) h l k = absurd (omega arith)
 place_unique (x ∷ ks) c [] h l k = absurd (omega arith)
 place_unique (free ∷ ks) c (b ∷ v) h l k =
-    ap {B = List Bool} (λ t. b ∷ t) (place_unique ks (c ++ (b ∷ [])) v (rw next h) (suc_inj l)
-    (subst (λ (t : List Bool). keeps_rules ks t v ≡ true) (sym (append_assoc c (b ∷ []) v)) k))
+    ap {B = List Bool} (λ t. b ∷ t) (place_unique ks (c ++ (b ∷ [])) v (rw next h) (suc_inj l) (subst (λ (t : List Bool). keeps_rules ks t v ≡ true) (sym (append_assoc c (b ∷ []) v)) k))
 place_unique (frozen o m ∷ ks) c (b ∷ v) h l k =
     let e : b ≡ o ⊕ odd m c = eq_⊕ b (o ⊕ odd m (c ++ b ∷ v)) (and_l _ _ k) ∙ ap (λ (t : Bool). o ⊕ t) (odd_here m c (b ∷ v) (and_l _ _ h)) in
     ap₂ {C = List Bool} (λ (x : Bool) (t : List Bool). x ∷ t) e
@@ -103,8 +100,7 @@ module _ (n : ℕ) (ks : List Rule) (r : ℕ) (lk : length ks ≡ 2 ^ n) (ok : e
       let lf : length f ≡ frees ks = length-free ks u (lu ∙ sym lk) in
       let lc : length c ≡ r = simp length-drop (omega arith) in
       let ef : p ++ c ≡ f = ap (λ (t : List Bool). t ++ c) (sym e) ∙ take-append-drop (length p) f in
-      let ec : c ≡ remainder (poly r) (leads r ++ p) =
-      (check-bits r p c lc).0 (ap (λ (t : List Bool). divides r (leads r ++ t)) ef ∙ and_r (keeps_rules ks u u) _ k) in
+      let ec : c ≡ remainder (poly r) (leads r ++ p) = (check-bits r p c lc).0 (ap (λ (t : List Bool). divides r (leads r ++ t)) ef ∙ and_r (keeps_rules ks u u) _ k) in
       place_unique ks [] u ok (lu ∙ sym lk) (and_l (keeps_rules ks u u) _ k) ∙ ap (place ks []) (sym ef ∙ ap (λ (t : List Bool). p ++ t) ec)
 
   payload_length : frees ks - r ≡ length p
@@ -114,9 +110,9 @@ module _ (n : ℕ) (ks : List Rule) (r : ℕ) (lk : length ks ≡ 2 ^ n) (ok : e
   same_self v = ap zeros (⊞-self v) ∙ zeros-none (length v)
 
   -- there is one codeword with payload p
-  pub carrying-one : carrying n ks r p ≡ polar n (encoded ks r p) ∷ []
+  pub carrying_one : carrying n ks r p ≡ polar n (encoded ks r p) ∷ []
   unfolding payload_of
-  carrying-one =
+  carrying_one =
       let (le, ke, te) = encoded-keeps in
       let one : (x : List Bool) → Codeword n ks r x → same p (payload_of n ks r x) ≡ true → x ≡ polar n (encoded ks r p) =
       λ x (lx, k) e.
@@ -124,16 +120,13 @@ module _ (n : ℕ) (ks : List Rule) (r : ℕ) (lk : length ks ≡ 2 ^ n) (ok : e
       let lu : length u ≡ 2 ^ n = length-polar n x lx in
       let lf : length (free_bits ks u) ≡ frees ks = length-free ks u (lu ∙ sym lk) in
       let lt : length p ≡ length (take (frees ks - r) (free_bits ks u)) = sym (simp length-take (omega arith)) in
-      let t : take (length p) (free_bits ks u) ≡ p =
-      ap (λ (m : ℕ). take m (free_bits ks u)) (sym payload_length) ∙ sym (zeros_eq p (take (frees ks - r) (free_bits ks u)) lt e) in
+      let t : take (length p) (free_bits ks u) ≡ p = ap (λ (m : ℕ). take m (free_bits ks u)) (sym payload_length) ∙ sym (zeros_eq p (take (frees ks - r) (free_bits ks u)) lt e) in
       sym (polar-polar n x lx) ∙ ap (polar n) (encoded_unique u lu k t) in
       let back : polar n (polar n (encoded ks r p)) ≡ encoded ks r p = polar-polar n (encoded ks r p) le in
       let is : same p (payload_of n ks r (polar n (encoded ks r p))) ≡ true =
-      ap (λ (t : List Bool). same p (take (frees ks - r) (free_bits ks t))) back
-      ∙ ap (λ (m : ℕ). same p (take m (free_bits ks (encoded ks r p)))) payload_length ∙ ap (same p) te ∙ same_self p in
+      ap (λ (t : List Bool). same p (take (frees ks - r) (free_bits ks t))) back ∙ ap (λ (m : ℕ). same p (take m (free_bits ks (encoded ks r p)))) payload_length ∙ ap (same p) te ∙ same_self p in
       earlier_unique n (carrying n ks r p) (polar n (encoded ks r p) ∷ []) (carrying_rise n ks r p) (tt, tt)
       (λ x. (
         λ m. let (k, e) = (carrying_iff n ks r p x).0 m in Memᴰ.head (one x k e),
-        λ m. Memᴰ.cast (Memᴰ.eq_of_singleton m)
-            ((carrying_iff n ks r p (polar n (encoded ks r p))).1 ((length-polar n (encoded ks r p) le, ap (keeps ks r) back ∙ ke), is)),
+        λ m. Memᴰ.cast (Memᴰ.eq_of_singleton m) ((carrying_iff n ks r p (polar n (encoded ks r p))).1 ((length-polar n (encoded ks r p) le, ap (keeps ks r) back ∙ ke), is)),
       ))

@@ -1,5 +1,5 @@
 -- What is known where a table's rows do not apply.
---     good                 a sheet that none of 11, 12, 19, 13 meets
+--     Good, good           a sheet that none of 11, 12, 19, 13 meets
 --     Worded, worded       a word, and room for the answer, that no refusal from 14 to 16 meets
 --     checked-none, worded_none     none applies where checking answers done
 --     form_parts           both, and a ceiling: what is known where decoding has no fault of form
@@ -16,14 +16,21 @@ use borrow.Author.Tests.{ltb-false, leb-false, eqb-true, not-false, lt-ltb, le-l
 use Rattle.bits.specs.Vectors.{bit, pick, first_place}
 use Rattle.bits.proofs.Tests.{or_false_l, or_false_r}
 use Rattle.meaning.specs.Limits.{largest_n, record_bytes, largest_ceiling}
-use Rattle.meaning.specs.Sheet.{rules, bad_record, frees}
-use Rattle.meaning.specs.Answers.{refuses, badShape, badCheck, sheetRefusals, wordRefusals, callRefusals}
-use Rattle.meaning.specs.Answers.{formNeeding, formRefusals, checking, wording, isOne, isDone}
-use Rattle.meaning.specs.Forms.{Good}
+use Rattle.meaning.specs.Sheet.{rules, bad_record, frees, early}
+use Rattle.meaning.specs.Answers.{refuses, badShape, badCheck, sheetRefusals, wordRefusals, callRefusals, formRefusals, checking, wording, isOne, isDone}
 use Rattle.meaning.proofs.Refusals.{tried_done, none_append}
 use Rattle.meaning.proofs.Sound.{rules-early}
 
 -- ---- the sheet
+
+pub record Good (n : ℕ) (s : List ℕ) (r : ℕ) : Type 0 where
+  pub small : n ≤ largest_n
+  pub long : length s ≡ 2 ^ n * record_bytes
+  pub sound : ltb (bad_record n s) (2 ^ n) ≡ false
+  pub ordered : early 0 (rules n s) ≡ true
+  pub holding : r < frees (rules n s)
+  pub check : (r ≡ 0) ⊎ ((r ≡ 6) ⊎ (r ≡ 11))
+  pub roomy : r ≤ frees (rules n s)
 
 check-length : (r k : ℕ) → badCheck r k ≡ false → (r ≡ 0) ⊎ ((r ≡ 6) ⊎ (r ≡ 11))
 unfolding badCheck
@@ -92,8 +99,7 @@ worded wanted top needed w room h =
     }
 
 -- a word that checking it calls done
-pub worded_none : (wanted top needed : ℕ) (w : List ℕ) (room : ℕ)
-    → isDone (wording wanted top needed w room) ≡ true → refuses (wordRefusals wanted top needed w room) ≡ false
+pub worded_none : (wanted top needed : ℕ) (w : List ℕ) (room : ℕ) → isDone (wording wanted top needed w room) ≡ true → refuses (wordRefusals wanted top needed w room) ≡ false
 unfolding wording wordRefusals
 worded_none wanted top needed w room d = tried_done (wordRefusals wanted top needed w room) refl d
 
@@ -107,20 +113,15 @@ bits_back (zero ∷ w) h = ap {B = List ℕ} (λ l. 0 ∷ l) (bits_back w (later
 bits_back (suc zero ∷ w) h = ap {B = List ℕ} (λ l. 1 ∷ l) (bits_back w (later w h))
 bits_back (suc (suc a) ∷ w) h =
     let two : ltb 1 (suc (suc a)) ≡ true = lt-ltb 1 (suc (suc a)) (omega arith) in
-    absurd (true≢false (sym (lt-ltb 0 (suc (length w)) (omega arith))
-    ∙ ap (λ (b : Bool). ltb (pick b 0 (suc (first_place (ltb 1) w))) (suc (length w))) (sym two) ∙ h))
+    absurd (true≢false (sym (lt-ltb 0 (suc (length w)) (omega arith)) ∙ ap (λ (b : Bool). ltb (pick b 0 (suc (first_place (ltb 1) w))) (suc (length w))) (sym two) ∙ h))
 
 -- ---- decoding
 
 -- a good sheet, a word, room for the answer, and a ceiling
-pub needing_parts : (times n : ℕ) (s : List ℕ) (r c : ℕ) (w : List ℕ) (room : ℕ) → refuses (formNeeding times n s r c w room) ≡ false
-    → Good n s r × Worded (2 ^ n) 2 (times * 2 ^ n) w room × (c ≤ largest_ceiling)
-needing_parts times n s r c w room h =
-    let (call, low) = none_append (callRefusals n s r (2 ^ n) 2 (times * 2 ^ n) w room) _ h in
-    let (sheet, word) = none_append (sheetRefusals n s r) _ call in
-    (good n s r sheet, worded (2 ^ n) 2 (times * 2 ^ n) w room word, ltb-false largest_ceiling c (or_false_l (ltb largest_ceiling c) false low))
-
 pub form_parts : (n : ℕ) (s : List ℕ) (r c : ℕ) (w : List ℕ) (room : ℕ) → refuses (formRefusals n s r c w room) ≡ false
     → Good n s r × Worded (2 ^ n) 2 (3 * 2 ^ n) w room × (c ≤ largest_ceiling)
 unfolding formRefusals
-form_parts n s r c w room h = needing_parts 3 n s r c w room h
+form_parts n s r c w room h =
+    let (call, low) = none_append (callRefusals n s r (2 ^ n) 2 (3 * 2 ^ n) w room) _ h in
+    let (sheet, word) = none_append (sheetRefusals n s r) _ call in
+    (good n s r sheet, worded (2 ^ n) 2 (3 * 2 ^ n) w room word, ltb-false largest_ceiling c (or_false_l (ltb largest_ceiling c) false low))

@@ -26,12 +26,12 @@ use Rattle.meaning.specs.Sheet.{Rule, free, frozen, early}
 use Rattle.meaning.specs.Transform.{polar}
 use Rattle.meaning.proofs.Affine.{agrees-clear}
 use Rattle.meaning.proofs.Candidates.{passes, length-candidates}
-use Rattle.meaning.proofs.Coset.{passes_shifted}
+use Rattle.meaning.proofs.Coset.{moves}
 use Rattle.meaning.proofs.Open.{meet-clear, open_list, ones-opens}
 use Rattle.meaning.proofs.Size.{power, bound}
 
 pub power_of_two : (n : ℕ) (ks : List Rule) (r : ℕ) (w : List ℕ) → (length (candidates n ks r w) ≡ 0) ⊎ ((d : ℕ) × (length (candidates n ks r w) ≡ 2 ^ d))
-power_of_two n ks r w = rw length-candidates (power (2 ^ n) (passes n ks r w) (λ u v t lu lv lt p q s. passes_shifted n ks r w w refl u v t lu lv lt p q s))
+power_of_two n ks r w = rw length-candidates (power (2 ^ n) (passes n ks r w) (λ u v t lu lv lt p q s. moves n ks r w w refl u v t lu lv lt p q s))
 
 -- ---- a frozen bit follows from those before it
 
@@ -47,10 +47,8 @@ odd-early (x ∷ m) [] u v h = off (x ∷ m) u h ∙ sym (off (x ∷ m) v h)
 odd-early (x ∷ m) (b ∷ c) u v h = ap (λ (t : Bool). (x && b) ⊕ t) (odd-early m c u v h)
 
 -- U and W are equal up to place j, where they hold a and b, and keep the rules, of which ks are those from i on
-module _ (U W : List Bool) (j : ℕ) (agree : (m : List Bool) → zeros (drop j m) ≡ true → odd m U ≡ odd m W)
-    (a b : Bool) (u v : List Bool) (ab : a ⊕ b ≡ true) where
-  frozen-parts : (i : ℕ) (ks : List Rule) (o c : List Bool) → i + length c ≡ j
-      → early i ks ≡ true → keeps_rules ks U (c ++ a ∷ u) ≡ true → keeps_rules ks W (c ++ b ∷ v) ≡ true
+module _ (U W : List Bool) (j : ℕ) (agree : (m : List Bool) → zeros (drop j m) ≡ true → odd m U ≡ odd m W) (a b : Bool) (u v : List Bool) (ab : a ⊕ b ≡ true) where
+  frozen-parts : (i : ℕ) (ks : List Rule) (o c : List Bool) → i + length c ≡ j → early i ks ≡ true → keeps_rules ks U (c ++ a ∷ u) ≡ true → keeps_rules ks W (c ++ b ∷ v) ≡ true
       → length c < length ks → get_or o (length c) false ≡ true → get_or (open_free ks o) (length c) false ≡ true
   frozen-parts i [] o c e h p q l g = absurd (omega arith)
   frozen-parts i (k ∷ ks) [] c e h p q l g = g
@@ -63,8 +61,7 @@ module _ (U W : List Bool) (j : ℕ) (agree : (m : List Bool) → zeros (drop j 
       absurd (true≢false (sym ab ∙ ap₂ ◌⊕◌ ea (eb ∙ ap (λ (t : Bool). s ⊕ t) (sym em)) ∙ ⊕-self (s ⊕ odd m U)))
   frozen-parts i (free ∷ ks) (x ∷ o) (y ∷ c) e h p q l g = frozen-parts (suc i) ks o c (omega arith) h p q (omega arith) g
   frozen-parts i (frozen s m ∷ ks) (x ∷ o) (y ∷ c) e h p q l g =
-      frozen-parts (suc i) ks o c (omega arith) (and_r (zeros (drop i m)) _ h)
-      (and_r (not (y ⊕ (s ⊕ odd m U))) _ p) (and_r (not (y ⊕ (s ⊕ odd m W))) _ q) (omega arith) g
+      frozen-parts (suc i) ks o c (omega arith) (and_r (zeros (drop i m)) _ h) (and_r (not (y ⊕ (s ⊕ odd m U))) _ p) (and_r (not (y ⊕ (s ⊕ odd m W))) _ q) (omega arith) g
 
 -- two vectors whose codewords agree with one word and that part at a place: it is open
 pub parts_open : (n : ℕ) (w : List ℕ) (c u v : List Bool) (a b : Bool) → length (c ++ a ∷ u) ≡ 2 ^ n → length u ≡ length v
@@ -76,8 +73,7 @@ parts_open n w c u v a b l k p q ab =
     let y = polar n (c ++ b ∷ v) in
     let same_start : same (take (length c) (c ++ a ∷ u)) (take (length c) (c ++ b ∷ v)) ≡ true =
     rw (take-append_seam c (a ∷ u), take-append_seam c (b ∷ v), ⊞-self c) (zeros-none (length c)) in
-    let differ : get_or (c ++ a ∷ u) (length c) false ⊕ get_or (c ++ b ∷ v) (length c) false ≡ true =
-    rw (get_or-append_seam c a u false, get_or-append_seam c b v false) ab in
+    let differ : get_or (c ++ a ∷ u) (length c) false ⊕ get_or (c ++ b ∷ v) (length c) false ≡ true = rw (get_or-append_seam c a u false, get_or-append_seam c b v false) ab in
     let alike : meet (map erased w) x y ≡ true = meet-clear (map erased w) x y ∙ agrees-clear w x y p q in
     bits-any (λ (s : List Bool). any (open_pair n (map erased w) (length c) s) (all_bits (2 ^ n))) (2 ^ n) (c ++ a ∷ u) l
     (bits-any (open_pair n (map erased w) (length c) (c ++ a ∷ u)) (2 ^ n) (c ++ b ∷ v) l' (and_i _ _ (and_i _ _ same_start differ) alike))
@@ -98,15 +94,12 @@ at_most n ks r w lk ok =
     (λ c u v a b l k p q ab.
     let lc : length c < 2 ^ n = omega (arith, simp length-append at (l ∙ lf)) in
     frozen-parts (c ++ a ∷ u) (c ++ b ∷ v) (length c) (λ m z. odd-early m c (a ∷ u) (b ∷ v) z) a b u v ab 0 ks o c (zero-add (length c)) ok
-    (and_l (keeps_rules ks (c ++ a ∷ u) (c ++ a ∷ u)) _ (and_l (keeps ks r (c ++ a ∷ u)) _ p))
-    (and_l (keeps_rules ks (c ++ b ∷ v) (c ++ b ∷ v)) _ (and_l (keeps ks r (c ++ b ∷ v)) _ q)) (omega arith)
-    (tab-at (2 ^ n) (is_open n (map erased w)) (length c) false lc
-    ∙ parts_open n w c u v a b (l ∙ lf) k (and_r (keeps ks r (c ++ a ∷ u)) _ p) (and_r (keeps ks r (c ++ b ∷ v)) _ q) ab)) in
+    (and_l (keeps_rules ks (c ++ a ∷ u) (c ++ a ∷ u)) _ (and_l (keeps ks r (c ++ a ∷ u)) _ p)) (and_l (keeps_rules ks (c ++ b ∷ v) (c ++ b ∷ v)) _ (and_l (keeps ks r (c ++ b ∷ v)) _ q)) (omega arith)
+    (tab-at (2 ^ n) (is_open n (map erased w)) (length c) false lc ∙ parts_open n w c u v a b (l ∙ lf) k (and_r (keeps ks r (c ++ a ∷ u)) _ p) (and_r (keeps ks r (c ++ b ∷ v)) _ q) ab)) in
     rw length-candidates (rw lf at t)
 
 -- d ≤ g
-pub d_le_g : (n : ℕ) (ks : List Rule) (r : ℕ) (w : List ℕ) (d : ℕ) → length ks ≡ 2 ^ n
-    → early 0 ks ≡ true → length (candidates n ks r w) ≡ 2 ^ d → d ≤ unknowns n ks w
+pub d_le_g : (n : ℕ) (ks : List Rule) (r : ℕ) (w : List ℕ) (d : ℕ) → length ks ≡ 2 ^ n → early 0 ks ≡ true → length (candidates n ks r w) ≡ 2 ^ d → d ≤ unknowns n ks w
 d_le_g n ks r w d lk ok e = go (dec_lt (unknowns n ks w) d)
   where
     go : Dec (unknowns n ks w < d) → d ≤ unknowns n ks w
@@ -123,9 +116,7 @@ open_free_le (frozen c m ∷ ks) (b ∷ o) = omega (arith, open_free_le ks o)
 -- g is at most the number of erased symbols
 pub g_le_erased : (n : ℕ) (ks : List Rule) (w : List ℕ) → length w ≡ 2 ^ n → unknowns n ks w ≤ ones (map erased w)
 unfolding unknowns open_all
-g_le_erased n ks w l =
-    rw (open_list n (map erased w) (length-map w erased ∙ l))
-    (omega (arith, open_free_le ks (opens n (map erased w)), ones-opens n (map erased w) (length-map w erased ∙ l)))
+g_le_erased n ks w l = rw (open_list n (map erased w) (length-map w erased ∙ l)) (omega (arith, open_free_le ks (opens n (map erased w)), ones-opens n (map erased w) (length-map w erased ∙ l)))
 
 -- where nothing is lost, g is 0
 pub nothing-lost : (n : ℕ) (ks : List Rule) (x : List Bool) → length x ≡ 2 ^ n → unknowns n ks (map bit x) ≡ 0

@@ -13,8 +13,7 @@ use Rattle.meaning.specs.Limits.{head_bytes}
 use Rattle.meaning.specs.Answers.{numbersOf}
 use Rattle.meaning.specs.Stream.{two_bytes, header}
 use Rattle.meaning.specs.declared.Answer.{Answer}
-use Rattle.meaning.specs.declared.Answer.TheVariants.{Done, Unique, Ambiguous, Inconsistent, LaneInconsistent, BadShape, BadRecord, BadCheck}
-use Rattle.meaning.specs.declared.Answer.TheVariants.{BadLength, BadSymbol, ShortOutput, BadCeiling, TooMany, HoldsNothing, TooAmbiguous}
+use Rattle.meaning.specs.declared.Answer.TheVariants.{Done, Unique, Ambiguous, Inconsistent, LaneInconsistent, BadShape, BadRecord, BadCheck, BadLength, BadSymbol, ShortOutput, BadCeiling, TooMany, HoldsNothing}
 
 pub numbers_five : (a : Answer) → length (numbersOf a) ≡ 5
 numbers_five Done = refl
@@ -31,7 +30,6 @@ numbers_five ShortOutput = refl
 numbers_five BadCeiling = refl
 numbers_five (TooMany g) = refl
 numbers_five HoldsNothing = refl
-numbers_five (TooAmbiguous g m d) = refl
 
 module _ (a : Answer) (v : List ℕ) (e : v ≡ numbersOf a) where
   five : length v ≡ 5
@@ -40,8 +38,7 @@ module _ (a : Answer) (v : List ℕ) (e : v ≡ numbersOf a) where
   pub headed : flatten (tab 5 (λ (i : ℕ). two_bytes (get_or v i 0))) ++ replicate (head_bytes - 10) 0 ≡ header a
   unfolding flatten
   headed =
-      let t : tab 5 (λ (i : ℕ). get_or v i 0) ≡ v =
-      subst (λ (k : ℕ). tab k (λ (i : ℕ). get_or v i 0) ≡ v) five (tab-get_or v 0 (λ (i : ℕ). get_or v i 0) (λ i l. refl)) in
+      let t : tab 5 (λ (i : ℕ). get_or v i 0) ≡ v = subst (λ (k : ℕ). tab k (λ (i : ℕ). get_or v i 0) ≡ v) five (tab-get_or v 0 (λ (i : ℕ). get_or v i 0) (λ i l. refl)) in
       ap (λ (l : List ℕ). flatten (map two_bytes l) ++ replicate (head_bytes - 10) 0) (t ∙ e)
 
 -- two bytes hold a number

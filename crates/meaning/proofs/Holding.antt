@@ -18,15 +18,13 @@ use Rattle.meaning.specs.Check.{free_bits, keeps}
 use Rattle.meaning.specs.Codewords.{erased, agrees, candidates}
 use Rattle.meaning.specs.Payload.{encoded}
 use Rattle.meaning.specs.Open.{unknowns, equations}
-use Rattle.meaning.specs.Answers.{numbersOf, refuses, badShape, sheetRefusals, encodeRefusals, readRefusals, formRefusals}
-use Rattle.meaning.specs.Answers.{decodeRefusals, leaving, checking, encoding, readingBack, decoding}
+use Rattle.meaning.specs.Answers.{numbersOf, refuses, badShape, sheetRefusals, encodeRefusals, readRefusals, formRefusals, decodeRefusals, leaving, checking, encoding, readingBack, decoding}
 use Rattle.meaning.specs.declared.Answer.TheVariants.{HoldsNothing}
 use Rattle.meaning.proofs.Polar.{length-polar, polar-polar}
 use Rattle.meaning.proofs.Sound.{length-rules}
 use Rattle.meaning.proofs.Candidates.{candidate_iff}
 use Rattle.meaning.proofs.Encode.{encoded-keeps}
-use Rattle.meaning.specs.Forms.{Good}
-use Rattle.meaning.proofs.Forms.{good, form_parts}
+use Rattle.meaning.proofs.Forms.{Good, good, form_parts}
 use Rattle.meaning.proofs.Demands.{unique_iff}
 
 -- ---- K = 0
@@ -74,8 +72,7 @@ module _ (n : ℕ) (s : List ℕ) (r : ℕ) (w : List ℕ) (ok : Good n s r) (lo
   abbrev us : Bool → List Bool
   us b = encoded ks r (replicate (frees ks - r) b)
 
-  kept : (b : Bool) → (length (us b) ≡ 2 ^ n) × (keeps ks r (us b) ≡ true)
-      × (take (length (replicate (frees ks - r) b)) (free_bits ks (us b)) ≡ replicate (frees ks - r) b)
+  kept : (b : Bool) → (length (us b) ≡ 2 ^ n) × (keeps ks r (us b) ≡ true) × (take (length (replicate (frees ks - r) b)) (free_bits ks (us b)) ≡ replicate (frees ks - r) b)
   kept b = encoded-keeps n ks r (length-rules n s) ok.ordered (replicate (frees ks - r) b) (omega (arith, length-replicate (frees ks - r) b, ok.holding))
 
   payload : (b : Bool) → take (frees ks - r) (free_bits ks (us b)) ≡ replicate (frees ks - r) b
@@ -98,8 +95,6 @@ module _ (n : ℕ) (s : List ℕ) (r : ℕ) (w : List ℕ) (ok : Good n s r) (lo
   pub lost_several : 1 < length (candidates n ks r w)
   lost_several = two_differ (candidates n ks r w) (polar n (us true)) (polar n (us false)) (member true) (member false) differ
 
-pub lost-not_unique : (n : ℕ) (s : List ℕ) (r c : ℕ) (w out : List ℕ)
-    → refuses (formRefusals n s r c w (length out)) ≡ false → unknowns n (rules n s) w ≤ c → all erased w ≡ true
+pub lost-not_unique : (n : ℕ) (s : List ℕ) (r c : ℕ) (w out : List ℕ) → refuses (formRefusals n s r c w (length out)) ≡ false → unknowns n (rules n s) w ≤ c → all erased w ≡ true
     → numbersOf (decoding n s r c w out).answer ≡ 0 ∷ 0 ∷ unknowns n (rules n s) w ∷ equations n (rules n s) r w ∷ 0 ∷ [] → ⊥
-lost-not_unique n s r c w out ok h lost e =
-    omega (arith, lost_several n s r w (form_parts n s r c w (length out) ok).0 lost, (unique_iff n s r c w out ok h).0 e)
+lost-not_unique n s r c w out ok h lost e = omega (arith, lost_several n s r w (form_parts n s r c w (length out) ok).0 lost, (unique_iff n s r c w out ok h).0 e)

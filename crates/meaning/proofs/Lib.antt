@@ -19,10 +19,9 @@
 --     Stuck                     a stuck run of leading zeros is caught
 --     Determined                a promise allows one result; what is refused leaves the buffer as found
 --     Saying                    what 01 says of decoding, sentence by sentence
---     Listed                    what 02 says of the list of the candidates
 --     Heading                   the bytes of an answer record before its strips
 --     Cutting                   an input cut into pieces
---     Masks, Bench              a sheet's masks byte by byte; the starred examples
+--     Bench                     the starred examples
 pub mod Polar
 pub mod Formula
 pub mod Layouts
@@ -50,8 +49,6 @@ pub mod Holding
 pub mod Stuck
 pub mod Determined
 pub mod Saying
-pub mod Listed
 pub mod Heading
 pub mod Cutting
-pub mod Masks
 pub mod Bench

@@ -25,8 +25,7 @@ pub starts_from : (r : ℕ) (v : List Bool) → rest (poly r) (replicate r false
 unfolding none
 starts_from r v =
     rest_append (poly r) (replicate r false) (leads r) v
-    ∙ ap (λ (s : List Bool). rest (poly r) s v) (ap (λ (k : ℕ). rest (poly r) (replicate k false) (leads r)) (sym (length-poly r))
-    ∙ rest_fills (poly r) (leads r) (length-leads r ∙ sym (length-poly r)))
+    ∙ ap (λ (s : List Bool). rest (poly r) s v) (ap (λ (k : ℕ). rest (poly r) (replicate k false) (leads r)) (sym (length-poly r)) ∙ rest_fills (poly r) (leads r) (length-leads r ∙ sym (length-poly r)))
 
 -- the free bits f keep the check exactly when r ones and f are the polynomial times some q of as many bits as f
 pub ones_divided : (r : ℕ) (f : List Bool) → (divides r (leads r ++ f) ≡ true) ↔ ((q : List Bool) × (length q ≡ length f) × (leads r ++ f ≡ times (poly r) q))
@@ -54,8 +53,6 @@ check-constant r p =
     let l : List Bool = leads r in
     let k : ℕ = length p in
     let lk : length l ≡ r = length-leads r in
-    let parts : l ++ p ≡ (none r ++ p) ⊞ (l ++ none k) =
-    sym (append_⊞ (none r) p l (none k) (length_none r ∙ sym lk) ∙ ap₂ {C = List Bool} ◌++◌ (⊞-comm (none r) l ∙ ⊞-none l r lk) (⊞-none p k refl)) in
+    let parts : l ++ p ≡ (none r ++ p) ⊞ (l ++ none k) = sym (append_⊞ (none r) p l (none k) (length_none r ∙ sym lk) ∙ ap₂ {C = List Bool} ◌++◌ (⊞-comm (none r) l ∙ ⊞-none l r lk) (⊞-none p k refl)) in
     let same : length (none r ++ p) ≡ length (l ++ none k) = simp (length-append, length_none, lk) in
-    ap (remainder (poly r)) parts ∙ remainder-⊞ (poly r) (none r ++ p) (l ++ none k) same
-    ∙ ap (λ (t : List Bool). t ⊞ constant r k) (remainder-zeros (poly r) r p)
+    ap (remainder (poly r)) parts ∙ remainder-⊞ (poly r) (none r ++ p) (l ++ none k) same ∙ ap (λ (t : List Bool). t ⊞ constant r k) (remainder-zeros (poly r) r p)

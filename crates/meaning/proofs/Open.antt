@@ -14,7 +14,7 @@ use lib.Seq.{take-take, take-add, get_or-take, get_or-drop, take-append-le, take
 use Rattle.bits.specs.Vectors.{◌⊕◌, ◌⊞◌, all_bits, any, tab, zeros, ones}
 use Rattle.bits.proofs.Rising.{any-bits, bits-any}
 use Rattle.bits.proofs.Tests.{and_l, and_r, and_i, bool_ext, count_append, tab-get_or}
-use Rattle.bits.proofs.Xor.{⊞-comm, length-⊞, get_or-⊞, take-⊞, none, ⊞-none, length_none, zeros-none, is-none, ⊞-self, zeros_append}
+use Rattle.bits.proofs.Xor.{⊞-comm, length-⊞, get_or-⊞, take-⊞, none, ⊞-none, length_none, zeros-none, is_none, ⊞-self, zeros_append}
 use Rattle.meaning.specs.Open.{is_open, open_pair, is_open_d, open_diff, opens, either, both, meet, clear}
 use Rattle.meaning.specs.Transform.{polar}
 use Rattle.meaning.proofs.Formula.{side, get_or-from}
@@ -164,8 +164,8 @@ module _ (n : ℕ) (a b : List Bool) (la : length a ≡ 2 ^ n) (lb : length b �
         clear-either a b (polar n p) (polar n q) (and_l _ _ k) (and_r (clear a (polar n p ⊞ polar n q)) _ k) (lv ∙ sym lw),
       )
 
-  left_in_lem : (i : ℕ) → i < 2 ^ n → Open n (either a b) i → Open (suc n) (a ++ b) i
-  left_in_lem i hi (p, lp, z, g, c) =
+  left_in : (i : ℕ) → i < 2 ^ n → Open n (either a b) i → Open (suc n) (a ++ b) i
+  left_in i hi (p, lp, z, g, c) =
       let v = polar n p in
       let w = fill a v in
       let lv = length-polar n p lp in
@@ -189,9 +189,8 @@ module _ (n : ℕ) (a b : List Bool) (la : length a ≡ 2 ^ n) (lb : length b �
       let w = polar n q in
       let lw = length-polar n q lq in
       let zz : zeros p && zeros (take k q) ≡ true = sym (ap zeros (take-add (2 ^ n) k d) ∙ zeros_append p (take k q)) ∙ z in
-      let ep : p ≡ none (2 ^ n) = is-none p (and_l _ _ zz) ∙ ap none lp in
-      let ev : polar n p ⊞ w ≡ w =
-      ap (λ (t : List Bool). polar n t ⊞ w) ep ∙ ap (λ (t : List Bool). t ⊞ w) (polar-none n) ∙ ⊞-comm (none (2 ^ n)) w ∙ ⊞-none w (2 ^ n) lw in (
+      let ep : p ≡ none (2 ^ n) = is_none p (and_l _ _ zz) ∙ ap none lp in
+      let ev : polar n p ⊞ w ≡ w = ap (λ (t : List Bool). polar n t ⊞ w) ep ∙ ap (λ (t : List Bool). t ⊞ w) (polar-none n) ∙ ⊞-comm (none (2 ^ n)) w ∙ ⊞-none w (2 ^ n) lw in (
         q,
         lq,
         and_r (zeros p) _ zz,
@@ -210,8 +209,7 @@ module _ (n : ℕ) (a b : List Bool) (la : length a ≡ 2 ^ n) (lb : length b �
         simp length-append (omega (arith, lo)),
         ap zeros (take-from o q (2 ^ n) k lo) ∙ zeros_append o (take k q) ∙ and_i _ _ (zeros-none (2 ^ n)) z,
         get_or-from o q (2 ^ n) k lo ∙ g,
-        ap (clear (a ++ b)) (polar_append n o q lo) ∙ ap (λ (t : List Bool). clear (a ++ b) (t ++ w)) ev
-            ∙ clear_append a b w w (la ∙ sym lw) ∙ sym (both-clear a b w (la ∙ sym lb)) ∙ c,
+        ap (clear (a ++ b)) (polar_append n o q lo) ∙ ap (λ (t : List Bool). clear (a ++ b) (t ++ w)) ev ∙ clear_append a b w w (la ∙ sym lw) ∙ sym (both-clear a b w (la ∙ sym lb)) ∙ c,
       )
 
 pub opens_append : (n : ℕ) (a b : List Bool) → length a ≡ 2 ^ n → opens (suc n) (a ++ b) ≡ opens n (either a b) ++ opens n (both a b)
@@ -249,7 +247,7 @@ opens-two n ih a b la lb i hi =
     go (inl q) l m =
         let e = get_or-append (opens n (either a b)) (opens n (both a b)) false i (omega (arith, length-opens n (either a b) l)) in
         let t = ih (either a b) l i q in
-        (λ o. e ∙ t.0 (left_out_lem n a b la lb i q o), λ g. left_in_lem n a b la lb i q (t.1 (sym e ∙ g)))
+        (λ o. e ∙ t.0 (left_out_lem n a b la lb i q o), λ g. left_in n a b la lb i q (t.1 (sym e ∙ g)))
     go (inr (k, p)) l m =
         let q : k < 2 ^ n = omega arith in
         let e = get_or-from (opens n (either a b)) (opens n (both a b)) (2 ^ n) k (length-opens n (either a b) l) in

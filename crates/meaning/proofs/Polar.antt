@@ -51,13 +51,7 @@ polar-⊞ (suc n) u v hu hv =
     let la' : length a' ≡ 2 ^ n = length-polar n (take (2 ^ n) v) (t v hv) in
     let lb' : length b' ≡ 2 ^ n = length-polar n (drop (2 ^ n) v) (d v hv) in
     let l : length (a ⊞ b) ≡ length (a' ⊞ b') = length-⊞ a b (cc) ∙ la ∙ sym la' ∙ sym (length-⊞ a' b' (cc)) in
-    rw (
-      take-⊞,
-      drop-⊞,
-      polar-⊞ n (take (2 ^ n) u) (take (2 ^ n) v) (t u hu) (t v hv),
-      polar-⊞ n (drop (2 ^ n) u) (drop (2 ^ n) v) (d u hu) (d v hv),
-      ⊞-swap a a' b b',
-    )
+    rw (take-⊞, drop-⊞, polar-⊞ n (take (2 ^ n) u) (take (2 ^ n) v) (t u hu) (t v hv), polar-⊞ n (drop (2 ^ n) u) (drop (2 ^ n) v) (d u hu) (d v hv), ⊞-swap a a' b b')
     (sym (append_⊞ (a ⊞ b) b (a' ⊞ b') b' l))
 
 pub polar-polar : (n : ℕ) (u : List Bool) → length u ≡ 2 ^ n → polar n (polar n u) ≡ u

@@ -23,17 +23,15 @@ use Rattle.meaning.specs.Check.{free_bits, keeps}
 use Rattle.meaning.specs.Codewords.{agrees, candidates, payload_of, carrying}
 use Rattle.meaning.specs.Payload.{encoded}
 use Rattle.meaning.specs.Strips.{first}
-use Rattle.meaning.specs.Answers.{Reply, refuses, sheetRefusals, wordRefusals, encodeRefusals, readRefusals, isOne}
-use Rattle.meaning.specs.Answers.{isDone, reply, leaving, writing, encoding, payloadRead, readingBack}
+use Rattle.meaning.specs.Answers.{Reply, refuses, sheetRefusals, wordRefusals, encodeRefusals, readRefusals, isOne, isDone, reply, leaving, writing, encoding, payloadRead, readingBack}
 use Rattle.meaning.specs.declared.Answer.{Answer}
 use Rattle.meaning.specs.declared.Answer.TheVariants.{Done, Inconsistent}
 use Rattle.meaning.proofs.Polar.{length-polar, polar-polar}
 use Rattle.meaning.proofs.Sound.{length-rules}
 use Rattle.meaning.proofs.Candidates.{earlier_unique, candidates_rise, candidate_iff}
-use Rattle.meaning.proofs.Encode.{encoded-keeps, carrying-one}
+use Rattle.meaning.proofs.Encode.{encoded-keeps, carrying_one}
 use Rattle.meaning.proofs.Refusals.{first-none, none_append, both-none, done_none}
-use Rattle.meaning.specs.Forms.{Good}
-use Rattle.meaning.proofs.Forms.{good, Worded, worded, bits_back}
+use Rattle.meaning.proofs.Forms.{Good, good, Worded, worded, bits_back}
 
 -- ---- a word with nothing erased
 
@@ -87,7 +85,7 @@ module _ (n : ℕ) (s : List ℕ) (r : ℕ) where
     size = omega (arith, length-map p isOne, parts.0.roomy, parts.1.long)
 
     one : carrying n ks r bits ≡ polar n (encoded ks r bits) ∷ []
-    one = carrying-one n ks r (length-rules n s) parts.0.ordered bits size
+    one = carrying_one n ks r (length-rules n s) parts.0.ordered bits size
 
     pub encode_is : encoding n s r p out ≡ writing (map bit (polar n (encoded ks r bits))) out Done
     unfolding encoding
@@ -103,17 +101,14 @@ module _ (n : ℕ) (s : List ℕ) (r : ℕ) where
     abbrev word : List Bool
     word = map isOne w
 
-    pub read_is : readingBack n s r w out ≡ pick (keeps ks r (polar n word))
-        (writing (map bit (payload_of n ks r word)) out Done) (leaving out (Inconsistent 0 0))
+    pub read_is : readingBack n s r w out ≡ pick (keeps ks r (polar n word)) (writing (map bit (payload_of n ks r word)) out Done) (leaving out (Inconsistent 0 0))
     unfolding readingBack payloadRead
     read_is =
         first-none (leaving out) (readRefusals n s r w (length out)) _ ok
-        ∙ ap (λ (cs : List (List Bool)). payloadRead n ks r cs out) (ap (candidates n ks r) (sym (bits_back w read_parts.1.symbols))
-        ∙ whole n ks r word (length-map w isOne ∙ read_parts.1.long))
+        ∙ ap (λ (cs : List (List Bool)). payloadRead n ks r cs out) (ap (candidates n ks r) (sym (bits_back w read_parts.1.symbols)) ∙ whole n ks r word (length-map w isOne ∙ read_parts.1.long))
         ∙ go (keeps ks r (polar n word))
       where
-        go : (b : Bool) → payloadRead n ks r (keep b word []) out
-            ≡ pick b (writing (map bit (payload_of n ks r word)) out Done) (leaving out (Inconsistent 0 0))
+        go : (b : Bool) → payloadRead n ks r (keep b word []) out ≡ pick b (writing (map bit (payload_of n ks r word)) out Done) (leaving out (Inconsistent 0 0))
         go true = refl
         go false = refl
 
@@ -130,18 +125,12 @@ no_symbol top h (true ∷ x) = rw (le-ltb top 1 h) (ap suc (no_symbol top h x))
 no_symbol top h (false ∷ x) = rw (le-ltb top 0 (omega arith)) (ap suc (no_symbol top h x))
 
 -- bits of the right number, with room, are not refused
-pub word_none : (wanted top needed : ℕ) (x : List Bool) (room : ℕ) → 1 ≤ top → length x ≡ wanted
-    → needed ≤ room → refuses (wordRefusals wanted top needed (map bit x) room) ≡ false
+pub word_none : (wanted top needed : ℕ) (x : List Bool) (room : ℕ) → 1 ≤ top → length x ≡ wanted → needed ≤ room → refuses (wordRefusals wanted top needed (map bit x) room) ≡ false
 unfolding wordRefusals
 word_none wanted top needed x room t l h =
-    rw (
-      eq-eqb (length (map bit x)) wanted (length-map x bit ∙ l),
-      le-ltb (first_place (ltb top) (map bit x)) (length (map bit x)) (omega (arith, no_symbol top t x)),
-      le-ltb room needed h,
-    )
+    rw (eq-eqb (length (map bit x)) wanted (length-map x bit ∙ l), le-ltb (first_place (ltb top) (map bit x)) (length (map bit x)) (omega (arith, no_symbol top t x)), le-ltb room needed h)
 
-pub round_trip : (n : ℕ) (s : List ℕ) (r : ℕ) (p out out' : List ℕ)
-    → refuses (encodeRefusals n s r p (length out)) ≡ false → frees (rules n s) - r ≤ length out'
+pub round_trip : (n : ℕ) (s : List ℕ) (r : ℕ) (p out out' : List ℕ) → refuses (encodeRefusals n s r p (length out)) ≡ false → frees (rules n s) - r ≤ length out'
     → readingBack n s r (take (2 ^ n) (encoding n s r p out).bytes) out' ≡ writing p out' Done
 unfolding encodeRefusals readRefusals payload_of
 round_trip n s r p out out' ok room =
@@ -154,26 +143,22 @@ round_trip n s r p out out' ok room =
     let lx : length x ≡ 2 ^ n = length-polar n u lu in
     let back : polar n x ≡ u = polar-polar n u lu in
     let wrote : take (2 ^ n) (encoding n s r p out).bytes ≡ map bit x =
-    ap (λ (a : Reply). take (2 ^ n) a.bytes) (encode_is n s r p out ok)
-    ∙ take_at (map bit x) (drop (length (map bit x)) out) (2 ^ n) (length-map x bit ∙ lx) in
+    ap (λ (a : Reply). take (2 ^ n) a.bytes) (encode_is n s r p out ok) ∙ take_at (map bit x) (drop (length (map bit x)) out) (2 ^ n) (length-map x bit ∙ lx) in
     let fine : refuses (readRefusals n s r (map bit x) (length out')) ≡ false =
     both-none (sheetRefusals n s r) (wordRefusals (2 ^ n) 1 (frees ks - r) (map bit x) (length out'))
-    (none_append (sheetRefusals n s r) (wordRefusals (frees ks - r) 1 (2 ^ n) p (length out)) ok).0
-    (word_none (2 ^ n) 1 (frees ks - r) x (length out') (omega arith) lx room) in
+    (none_append (sheetRefusals n s r) (wordRefusals (frees ks - r) 1 (2 ^ n) p (length out)) ok).0 (word_none (2 ^ n) 1 (frees ks - r) x (length out') (omega arith) lx room) in
     let same : map isOne (map bit x) ≡ x = ones_back x in
     let kept : keeps ks r (polar n (map isOne (map bit x))) ≡ true = ap (λ (t : List Bool). keeps ks r (polar n t)) same ∙ ap (keeps ks r) back ∙ ku in
     let k : frees ks - r ≡ length b = omega (arith, size n s r p out ok) in
     let paid : payload_of n ks r (map isOne (map bit x)) ≡ b =
-    ap (λ (t : List Bool). take (frees ks - r) (free_bits ks (polar n t))) same
-    ∙ ap (λ (t : List Bool). take (frees ks - r) (free_bits ks t)) back ∙ ap (λ (m : ℕ). take m (free_bits ks u)) k ∙ tu in
+    ap (λ (t : List Bool). take (frees ks - r) (free_bits ks (polar n t))) same ∙ ap (λ (t : List Bool). take (frees ks - r) (free_bits ks t)) back ∙ ap (λ (m : ℕ). take m (free_bits ks u)) k ∙ tu in
     ap (λ (l : List ℕ). readingBack n s r l out') wrote ∙ read_is n s r (map bit x) out' fine
     ∙ ap (λ (t : Bool). pick t (writing (map bit (payload_of n ks r (map isOne (map bit x)))) out' Done) (leaving out' (Inconsistent 0 0))) kept
     ∙ ap (λ (l : List Bool). writing (map bit l) out' Done) paid
     ∙ ap (λ (l : List ℕ). writing l out' Done) (bits_back p w.symbols)
 
 -- encoding that answers Done was refused by nothing
-pub encoded-none : (n : ℕ) (s : List ℕ) (r : ℕ) (p out : List ℕ)
-    → isDone (encoding n s r p out).answer ≡ true → refuses (encodeRefusals n s r p (length out)) ≡ false
+pub encoded-none : (n : ℕ) (s : List ℕ) (r : ℕ) (p out : List ℕ) → isDone (encoding n s r p out).answer ≡ true → refuses (encodeRefusals n s r p (length out)) ≡ false
 unfolding encoding encodeRefusals sheetRefusals wordRefusals
 encoded-none n s r p out d = done_none out (encodeRefusals n s r p (length out)) _ refl d
 

@@ -7,17 +7,15 @@
 --     in_order         the fixed order: a row that applies is given where none before it does
 --     done_none        a call that answers Done was refused by no row
 --     refused_untouched     a call that a row refuses leaves its buffer as found
---     sized_over, sized_under     18 where g is above the ceiling, else what stands after it
 use mathlib.Core.Path.{◌≡◌, refl, sym, ap, ◌∙◌}
-use Prim.Native.Nat.{ℕ, ◌≤◌, ◌<◌}
+use Prim.Native.Nat.{ℕ}
 use mathlib.Core.Bool.{Bool, true, false, ◌&&◌, ◌||◌, not, false≢true, true≢false}
 use mathlib.Core.List.{List, [], ◌∷◌, ◌++◌, append-nil}
-use borrow.Author.Tests.{lt-ltb, le-ltb}
 use Rattle.bits.specs.Vectors.{pick, all}
 use Rattle.bits.proofs.Tests.{or_false_l, or_false_r, and_l, and_r}
-use Rattle.meaning.specs.Answers.{isDone, Refusal, first_of, refuses, fault, Reply, leaving, sized}
+use Rattle.meaning.specs.Answers.{isDone, Refusal, first_of, refuses, fault, Reply, leaving}
 use Rattle.meaning.specs.declared.Answer.{Answer}
-use Rattle.meaning.specs.declared.Answer.TheVariants.{Done, TooMany}
+use Rattle.meaning.specs.declared.Answer.TheVariants.{Done}
 
 module _ {A : Type 0} (f : Answer → A) where
   pub first_append : (a b : List Refusal) (z : A) → first_of f (a ++ b) z ≡ first_of f a (first_of f b z)
@@ -37,19 +35,16 @@ module _ {A : Type 0} (f : Answer → A) where
   first_refused [] y z h = absurd (false≢true h)
   first_refused (t ∷ ts) y z h = go t.applies h (first_refused ts y z)
     where
-      go : (b : Bool) → b || refuses ts ≡ true → (refuses ts ≡ true → first_of f ts y ≡ first_of f ts z)
-          → pick b (f t.answer) (first_of f ts y) ≡ pick b (f t.answer) (first_of f ts z)
+      go : (b : Bool) → b || refuses ts ≡ true → (refuses ts ≡ true → first_of f ts y ≡ first_of f ts z) → pick b (f t.answer) (first_of f ts y) ≡ pick b (f t.answer) (first_of f ts z)
       go true k g = refl
       go false k g = g k
 
 -- what each row's answer is, the answer is
-pub refused_is : (p : Answer → Bool) (out : List ℕ) (ts : List Refusal) (z : Reply)
-    → all (λ (t : Refusal). p t.answer) ts ≡ true → refuses ts ≡ true → p (first_of (leaving out) ts z).answer ≡ true
+pub refused_is : (p : Answer → Bool) (out : List ℕ) (ts : List Refusal) (z : Reply) → all (λ (t : Refusal). p t.answer) ts ≡ true → refuses ts ≡ true → p (first_of (leaving out) ts z).answer ≡ true
 refused_is p out [] z a h = absurd (false≢true h)
 refused_is p out (t ∷ ts) z a h = go t.applies h (refused_is p out ts z (and_r (p t.answer) _ a))
   where
-    go : (b : Bool) → b || refuses ts ≡ true → (refuses ts ≡ true → p (first_of (leaving out) ts z).answer ≡ true)
-        → p (pick b (leaving out t.answer) (first_of (leaving out) ts z)).answer ≡ true
+    go : (b : Bool) → b || refuses ts ≡ true → (refuses ts ≡ true → p (first_of (leaving out) ts z).answer ≡ true) → p (pick b (leaving out t.answer) (first_of (leaving out) ts z)).answer ≡ true
     go true k g = and_l (p t.answer) _ a
     go false k g = g k
 
@@ -58,8 +53,7 @@ pub none_append : (a b : List Refusal) → refuses (a ++ b) ≡ false → (refus
 none_append [] b h = (refl, h)
 none_append (t ∷ a) b h = go t.applies h (none_append a b)
   where
-    go : (c : Bool) → c || refuses (a ++ b) ≡ false → (refuses (a ++ b) ≡ false → (refuses a ≡ false) × (refuses b ≡ false))
-        → (c || refuses a ≡ false) × (refuses b ≡ false)
+    go : (c : Bool) → c || refuses (a ++ b) ≡ false → (refuses (a ++ b) ≡ false → (refuses a ≡ false) × (refuses b ≡ false)) → (c || refuses a ≡ false) × (refuses b ≡ false)
     go true k g = absurd (true≢false k)
     go false k g = g k
 
@@ -77,8 +71,7 @@ pub tried_done : (ts : List Refusal) → Telling ts ≡ true → isDone (fault t
 tried_done [] h d = refl
 tried_done (t ∷ ts) h d = go t.applies (isDone t.answer) refl h d (tried_done ts)
   where
-    go : (b c : Bool) → isDone t.answer ≡ c → not c && Telling ts ≡ true → isDone (pick b t.answer (fault ts)) ≡ true
-        → (Telling ts ≡ true → isDone (fault ts) ≡ true → refuses ts ≡ false) → b || refuses ts ≡ false
+    go : (b c : Bool) → isDone t.answer ≡ c → not c && Telling ts ≡ true → isDone (pick b t.answer (fault ts)) ≡ true → (Telling ts ≡ true → isDone (fault ts) ≡ true → refuses ts ≡ false) → b || refuses ts ≡ false
     go true true e k q f = absurd (false≢true k)
     go true false e k q f = absurd (false≢true (sym e ∙ q))
     go false c e k q f = f (and_r (not c) _ k) q
@@ -88,8 +81,7 @@ pub tried_refused : {A : Type 0} (f : Answer → A) (ts us : List Refusal) (z : 
 tried_refused f [] us z h = absurd (true≢false h)
 tried_refused f (t ∷ ts) us z h = go t.applies h (tried_refused f ts us z)
   where
-    go : (b : Bool) → isDone (pick b t.answer (fault ts)) ≡ false → (isDone (fault ts) ≡ false → first_of f (ts ++ us) z ≡ f (fault ts))
-        → pick b (f t.answer) (first_of f (ts ++ us) z) ≡ f (pick b t.answer (fault ts))
+    go : (b : Bool) → isDone (pick b t.answer (fault ts)) ≡ false → (isDone (fault ts) ≡ false → first_of f (ts ++ us) z ≡ f (fault ts)) → pick b (f t.answer) (first_of f (ts ++ us) z) ≡ f (pick b t.answer (fault ts))
     go true k g = refl
     go false k g = g k
 
@@ -101,8 +93,7 @@ pub tried_all : {A : Type 0} (f : Answer → A) (ts : List Refusal) (z : A) → 
 tried_all f ts z h = ap (λ (l : List Refusal). first_of f l z) (sym (append-nil ts)) ∙ tried_refused f ts [] z h
 
 -- the fixed order: a row that applies is given where none before it does
-pub in_order : {A : Type 0} (f : Answer → A) (before after : List Refusal) (t : Refusal) (z : A)
-    → refuses before ≡ false → t.applies ≡ true → first_of f (before ++ t ∷ after) z ≡ f t.answer
+pub in_order : {A : Type 0} (f : Answer → A) (before after : List Refusal) (t : Refusal) (z : A) → refuses before ≡ false → t.applies ≡ true → first_of f (before ++ t ∷ after) z ≡ f t.answer
 in_order f before after t z h k = past_none f before (t ∷ after) z h ∙ rw k
 
 -- a call that answers Done was refused by no row
@@ -118,14 +109,6 @@ pub refused_untouched : (out : List ℕ) (ts : List Refusal) (z : Reply) → ref
 refused_untouched out [] z h = absurd (false≢true h)
 refused_untouched out (t ∷ ts) z h = go t.applies h (refused_untouched out ts z)
   where
-    go : (b : Bool) → b || refuses ts ≡ true → (refuses ts ≡ true → (first_of (leaving out) ts z).bytes ≡ out)
-        → (pick b (leaving out t.answer) (first_of (leaving out) ts z)).bytes ≡ out
+    go : (b : Bool) → b || refuses ts ≡ true → (refuses ts ≡ true → (first_of (leaving out) ts z).bytes ≡ out) → (pick b (leaving out t.answer) (first_of (leaving out) ts z)).bytes ≡ out
     go true k g = refl
     go false k g = g k
-
-module _ (c g : ℕ) (out : List ℕ) (z : Reply) where
-  pub sized_over : c < g → sized c g out z ≡ leaving out (TooMany g)
-  sized_over h = rw (lt-ltb c g h)
-
-  pub sized_under : g ≤ c → sized c g out z ≡ z
-  sized_under h = rw (le-ltb c g h)

@@ -44,8 +44,7 @@ rest-small g d [] h = sym (append-nil d)
 rest-small g d (b ∷ c) h =
     let l : length ((none (length c) ++ d) ++ (b ∷ [])) ≡ length g = simp (length-append, length_none) (omega arith) in
     ap (λ (s : List Bool). rest g s c)
-    (ap (λ (t : List Bool). ((none (length c) ++ d) ++ (b ∷ [])) ⊞ t) (scale_none g)
-    ∙ ⊞-none ((none (length c) ++ d) ++ (b ∷ [])) (length g) l ∙ append_assoc (none (length c)) d (b ∷ []))
+    (ap (λ (t : List Bool). ((none (length c) ++ d) ++ (b ∷ [])) ⊞ t) (scale_none g) ∙ ⊞-none ((none (length c) ++ d) ++ (b ∷ [])) (length g) l ∙ append_assoc (none (length c)) d (b ∷ []))
     ∙ rest-small g (d ++ (b ∷ [])) c (simp length-append (omega arith)) ∙ append_assoc d (b ∷ []) c
 
 -- so r bits that are shifted into zeros are what is left of them
@@ -79,8 +78,7 @@ unfolding none remainder
 check_iff r p c lc =
     let lr : length (poly r) ≡ r = length-poly r in
     let lg : length c ≡ length (poly r) = lc ∙ sym lr in
-    let e : rest (poly r) (replicate r false) (p ++ c) ≡ remainder (poly r) p ⊞ c =
-    ap (λ (k : ℕ). rest (poly r) (replicate k false) (p ++ c)) (sym lr) ∙ rest-check (poly r) p c lg in
+    let e : rest (poly r) (replicate r false) (p ++ c) ≡ remainder (poly r) p ⊞ c = ap (λ (k : ℕ). rest (poly r) (replicate k false) (p ++ c)) (sym lr) ∙ rest-check (poly r) p c lg in
     let lm : length (remainder (poly r) p) ≡ length c = length-remainder (poly r) p ∙ sym lg in (
       λ h. sym (zeros_eq (remainder (poly r) p) c lm (sym (ap zeros e) ∙ h)),
       λ h. ap zeros (e ∙ ap (λ (t : List Bool). t ⊞ c) (sym h) ∙ ⊞-self c) ∙ zeros-none (length c),

@@ -19,7 +19,7 @@ use Rattle.meaning.specs.Transform.{polar}
 use Rattle.meaning.specs.Codewords.{erased, candidates, Agreeing, OneAgrees, NoneAgrees}
 use Rattle.meaning.specs.Open.{unknowns, equations}
 use Rattle.meaning.specs.Strips.{log2, dimension, strips}
-use Rattle.meaning.specs.Answers.{numbersOf, refuses, sheetRefusals, wordRefusals, formRefusals, Reply, reply, leaving, verdict, deciding, decoding}
+use Rattle.meaning.specs.Answers.{numbersOf, refuses, sheetRefusals, wordRefusals, formRefusals, Reply, reply, leaving, verdict, decoding}
 use Rattle.meaning.specs.Said.{Said}
 use Rattle.meaning.specs.declared.Answer.{Answer}
 use Rattle.meaning.specs.declared.Answer.TheVariants.{TooMany}
@@ -30,7 +30,7 @@ use Rattle.meaning.proofs.Candidates.{Earlier, candidates_rise, candidate_iff}
 use Rattle.meaning.proofs.Strips.{candidate_long, strips-long}
 use Rattle.meaning.proofs.Gap.{d_le_g, g_le_erased}
 use Rattle.meaning.proofs.Dimension.{dimension-is}
-use Rattle.meaning.proofs.Demands.{code, code_by, d_by, at, verdict_numbers, code_one, code-none, code-not_18, by_form, over, under}
+use Rattle.meaning.proofs.Demands.{code, code_by, d_by, at, verdict_numbers, code_one, code-none, code-not_18, decided, by_form, over, under}
 
 -- ---- the agreeing codewords
 
@@ -84,8 +84,7 @@ module _ (n g m : ℕ) (out : List ℕ) where
   untouched (x ∷ []) h = absurd (omega arith)
   untouched (x ∷ y ∷ cs) h = absurd (omega arith)
 
-  rest : (cs : List (List Bool)) → ((x : List Bool) → Memᴰ x cs → length x ≡ 2 ^ n)
-      → drop (3 * 2 ^ n) (verdict n g m cs out).bytes ≡ drop (3 * 2 ^ n) out
+  rest : (cs : List (List Bool)) → ((x : List Bool) → Memᴰ x cs → length x ≡ 2 ^ n) → drop (3 * 2 ^ n) (verdict n g m cs out).bytes ≡ drop (3 * 2 ^ n) out
   unfolding verdict
   rest [] f = refl
   rest (x ∷ []) f = behind n out (x ∷ []) (omega arith) f
@@ -123,16 +122,16 @@ module _ (n : ℕ) (s : List ℕ) (r c : ℕ) (w out : List ℕ) where
   unfolding formRefusals sheetRefusals wordRefusals
   faulty h =
       let p : Answer → Bool = λ a. neither (get_or (numbersOf a) 0 0) in
-      ap (λ (t : Reply). p t.answer) (by_form n s r c w out) ∙ refused_is p out (formRefusals n s r c w (length out)) (deciding n s r c w out) refl h
+      ap (λ (t : Reply). p t.answer) (by_form n s r c w out) ∙ refused_is p out (formRefusals n s r c w (length out)) (decided n s r c w out) refl h
 
   refused_said : form ≡ true → SaidOf D
   refused_said h =
       let same : D.bytes ≡ out = ap (λ (t : Reply). t.bytes) (by_form n s r c w out) ∙ refused_untouched out (formRefusals n s r c w (length out)) _ h in
       record {
-        two-untouched = λ e. same;
+        two_untouched = λ e. same;
         rest_stays = ap (drop (3 * 2 ^ n)) same;
         size_told = λ e. absurd (false≢true (ap neither (sym e) ∙ faulty h));
-        one-agrees = λ ok. absurd (false≢true (sym ok ∙ h));
+        one_agrees = λ ok. absurd (false≢true (sym ok ∙ h));
         none-agrees = λ ok. absurd (false≢true (sym ok ∙ h));
         counts = λ ok. absurd (false≢true (sym ok ∙ h));
       }
@@ -143,10 +142,10 @@ module _ (n : ℕ) (s : List ℕ) (r c : ℕ) (w out : List ℕ) where
   over_said : c < g → SaidOf (leaving out (TooMany g))
   over_said h =
       record {
-        two-untouched = λ e. refl;
+        two_untouched = λ e. refl;
         rest_stays = refl;
         size_told = λ e. (refl, h, refl);
-        one-agrees = λ ok. (λ e. absurd (omega arith), λ (l, o). absurd (omega arith));
+        one_agrees = λ ok. (λ e. absurd (omega arith), λ (l, o). absurd (omega arith));
         none-agrees = λ ok. (λ e. absurd (omega arith), λ (l, o). absurd (omega arith));
         counts = λ ok. (omega arith, erased_bound ok);
       }
@@ -164,10 +163,10 @@ module _ (n : ℕ) (s : List ℕ) (r c : ℕ) (w out : List ℕ) where
   under_said h =
       let v = verdict_numbers n g m out (cs n ks r w) in
       record {
-        two-untouched = untouched n g m out (cs n ks r w);
+        two_untouched = untouched n g m out (cs n ks r w);
         rest_stays = rest n g m out (cs n ks r w) (candidate_long n ks r w);
         size_told = λ e. absurd (code-not_18 (length (cs n ks r w)) (sym (at 0 v) ∙ e));
-        one-agrees = λ ok. (
+        one_agrees = λ ok. (
           λ e. (h, (one_iff n ks r w).0 (code_one (length (cs n ks r w)) (sym (at 0 v) ∙ e))),
           λ (l, o). at 0 v ∙ ap code_by ((one_iff n ks r w).1 o),
         );

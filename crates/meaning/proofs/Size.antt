@@ -75,9 +75,7 @@ power (suc m) p f =
 -- ---- where two that pass part, fs holds 1
 
 abbrev pub Parts : (List Bool → Bool) → List Bool → Type 0
-Parts p fs =
-    (c u v : List Bool) (a b : Bool) → length (c ++ a ∷ u) ≡ length fs → length u ≡ length v
-    → p (c ++ a ∷ u) ≡ true → p (c ++ b ∷ v) ≡ true → a ⊕ b ≡ true → get_or fs (length c) false ≡ true
+Parts p fs = (c u v : List Bool) (a b : Bool) → length (c ++ a ∷ u) ≡ length fs → length u ≡ length v → p (c ++ a ∷ u) ≡ true → p (c ++ b ∷ v) ≡ true → a ⊕ b ≡ true → get_or fs (length c) false ≡ true
 
 pub bound : (fs : List Bool) (p : List Bool → Bool) → Parts p fs → count p (all_bits (length fs)) ≤ 2 ^ ones fs
 unfolding all_bits
@@ -88,8 +86,7 @@ bound [] p h = one (p [])
     one false = omega arith
 bound (f ∷ fs) p h =
     let sub : (x : Bool) → Parts (p ▹ x) fs = λ x c u v a b l k q r s. h (x ∷ c) u v a b (ap suc l) k q r s in
-    rw (count-suc p (length fs)) (go f refl (bound fs (p ▹ false) (sub false))
-    (bound fs (p ▹ true) (sub true)) (some_bits (p ▹ false) (length fs)) (some_bits (p ▹ true) (length fs)))
+    rw (count-suc p (length fs)) (go f refl (bound fs (p ▹ false) (sub false)) (bound fs (p ▹ true) (sub true)) (some_bits (p ▹ false) (length fs)) (some_bits (p ▹ true) (length fs)))
   where
     n₀ : ℕ
     n₀ = count (p ▹ false) (all_bits (length fs))

@@ -33,8 +33,7 @@ fine-early : (s : List ℕ) (i : ℕ) → fine s i ≡ true → early_rule i (ru
 unfolding fine rule_at
 fine-early s i h = go (eqb (byte s i 0) 0) (and_r (leb (byte s i 0) 1 && leb (byte s i 1) 1 && eqb (byte s i 2) 0 && eqb (byte s i 3) 0) _ h)
   where
-    go : (b : Bool) → pick b (eqb (byte s i 1) 0 && zeros (mask s i)) (zeros (drop i (mask s i))) ≡ true
-        → early_rule i (pick b free (frozen (eqb (byte s i 1) 1) (mask s i))) ≡ true
+    go : (b : Bool) → pick b (eqb (byte s i 1) 0 && zeros (mask s i)) (zeros (drop i (mask s i))) ≡ true → early_rule i (pick b free (frozen (eqb (byte s i 1) 1) (mask s i))) ≡ true
     go true k = refl
     go false k = k
 

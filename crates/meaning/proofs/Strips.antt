@@ -52,8 +52,7 @@ module _ (n : ℕ) (cs : List (List Bool)) (h : 0 < length cs) (f : (x : List Bo
     unfolding strips
     strips-first =
         ap (λ (l : List ℕ). take (2 ^ n) (drop (2 ^ n) l)) (append_assoc (t ++ first cs) (last cs) b ∙ append_assoc t (first cs) (last cs ++ b))
-        ∙ ap (take (2 ^ n)) (drop_at t (first cs ++ (last cs ++ b)) (2 ^ n) settled-long)
-        ∙ take_at (first cs) (last cs ++ b) (2 ^ n) (first-long (2 ^ n) cs h f)
+        ∙ ap (take (2 ^ n)) (drop_at t (first cs ++ (last cs ++ b)) (2 ^ n) settled-long) ∙ take_at (first cs) (last cs ++ b) (2 ^ n) (first-long (2 ^ n) cs h f)
 
     pub strips-last : take (2 ^ n) (drop (2 * 2 ^ n) (strips n cs ++ b)) ≡ last cs
     unfolding strips

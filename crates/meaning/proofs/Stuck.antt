@@ -15,7 +15,7 @@ use lib.ListN.{length, drop, get_or, replicate, length-append}
 use lib.Dec.{eqb}
 use Rattle.bits.specs.Vectors.{◌⊞◌, bit, keep, pick, zeros}
 use Rattle.bits.proofs.Tests.{and_l, and_r, and-false}
-use Rattle.bits.proofs.Xor.{append_⊞, none, ⊞-none, ⊞-self, length-⊞, length_none, is-none, zeros-none, zeros_append, zeros_eq}
+use Rattle.bits.proofs.Xor.{append_⊞, none, ⊞-none, ⊞-self, length-⊞, length_none, is_none, zeros-none, zeros_append, zeros_eq}
 use Rattle.meaning.specs.Limits.{leads}
 use Rattle.meaning.specs.Transform.{polar}
 use Rattle.meaning.specs.Sheet.{Rule, free, frozen, rules}
@@ -55,9 +55,8 @@ module _ (g h : List Bool) (term : g ≡ h ++ (true ∷ [])) where
   back [] l e = ap none l
   back (false ∷ s) l e =
       let ls : length (s ++ (false ∷ [])) ≡ length g = length-append s (false ∷ []) ∙ omega arith in
-      let z : s ++ (false ∷ []) ≡ none (length g) =
-      sym (ap (λ (t : List Bool). (s ++ (false ∷ [])) ⊞ t) (scale_none g) ∙ ⊞-none (s ++ (false ∷ [])) (length g) ls) ∙ e in
-      ap {B = List Bool} (λ t. false ∷ t) (is-none s (and_l (zeros s) _ (sym (zeros_append s (false ∷ [])) ∙ ap zeros z ∙ zeros-none (length g)))) ∙ ap none l
+      let z : s ++ (false ∷ []) ≡ none (length g) = sym (ap (λ (t : List Bool). (s ++ (false ∷ [])) ⊞ t) (scale_none g) ∙ ⊞-none (s ++ (false ∷ [])) (length g) ls) ∙ e in
+      ap {B = List Bool} (λ t. false ∷ t) (is_none s (and_l (zeros s) _ (sym (zeros_append s (false ∷ [])) ∙ ap zeros z ∙ zeros-none (length g)))) ∙ ap none l
   back (true ∷ s) l e =
       let ls : length (s ++ (false ∷ [])) ≡ length g = length-append s (false ∷ []) ∙ omega arith in
       let z : (s ++ (false ∷ [])) ⊞ g ≡ none (length g) = ap (λ (t : List Bool). (s ++ (false ∷ [])) ⊞ t) (sym (map-id g)) ∙ e in
@@ -69,14 +68,12 @@ module _ (g h : List Bool) (term : g ≡ h ++ (true ∷ [])) where
   back_all (suc k) s l e = back s l (back_all k (shift g s false) (length_shift g s false l) e)
 
   -- a start that divides v, and divides it behind t zeros, comes back to itself after t zeros
-  comes_back : (s v : List Bool) (t : ℕ) → length s ≡ length g → rest g s v ≡ none (length g)
-      → rest g s (none t ++ v) ≡ none (length g) → rest g s (none t) ≡ s
+  comes_back : (s v : List Bool) (t : ℕ) → length s ≡ length g → rest g s v ≡ none (length g) → rest g s (none t ++ v) ≡ none (length g) → rest g s (none t) ≡ s
   comes_back s v t l p q =
       let a : List Bool = rest g s (none t) in
       let la : length a ≡ length s = length_rest g s (none t) l ∙ sym l in
       let e : rest g (a ⊞ s) (none (length v)) ≡ none (length g) =
-      ap (rest g (a ⊞ s)) (sym (⊞-self v)) ∙ rest-⊞ g a s v v la refl ∙ ap₂ ◌⊞◌ (sym (rest_append g s (none t) v) ∙ q) p
-      ∙ ⊞-none (none (length g)) (length g) (length_none (length g)) in
+      ap (rest g (a ⊞ s)) (sym (⊞-self v)) ∙ rest-⊞ g a s v v la refl ∙ ap₂ ◌⊞◌ (sym (rest_append g s (none t) v) ∙ q) p ∙ ⊞-none (none (length g)) (length g) (length_none (length g)) in
       zeros_eq a s la (ap zeros (back_all (length v) (a ⊞ s) (length-⊞ a s la ∙ la ∙ l) e) ∙ zeros-none (length g))
 
 -- ---- the two polynomials
@@ -88,9 +85,7 @@ Check r = (r ≡ 6) ⊎ (r ≡ 11)
 -- both have the term 1
 term : (r : ℕ) → Check r → (h : List Bool) × (poly r ≡ h ++ (true ∷ []))
 unfolding poly
-term r =
-    ⊎_elim (λ e. rw e (true ∷ false ∷ false ∷ false ∷ false ∷ [], refl))
-    (λ e. rw e (true ∷ true ∷ false ∷ false ∷ false ∷ true ∷ false ∷ false ∷ false ∷ false ∷ [], refl))
+term r = ⊎_elim (λ e. rw e (true ∷ false ∷ false ∷ false ∷ false ∷ [], refl)) (λ e. rw e (true ∷ true ∷ false ∷ false ∷ false ∷ true ∷ false ∷ false ∷ false ∷ false ∷ [], refl))
 
 -- zero by zero, m of them, the register x does not come to s
 away : List Bool → List Bool → List Bool → ℕ → Bool
@@ -117,8 +112,7 @@ runs r = ⊎_elim (λ e. rw e refl) (λ e. rw e refl)
 
 left-none : (r : ℕ) (v : List Bool) → divides r (leads r ++ v) ≡ true → rest (poly r) (leads r) v ≡ none (length (poly r))
 left-none r v h =
-    is-none (rest (poly r) (leads r) v) (sym (ap zeros (starts_from r v)) ∙ h)
-    ∙ ap none (length_rest (poly r) (leads r) v (length-leads r ∙ sym (length-poly r)))
+    is_none (rest (poly r) (leads r) v) (sym (ap zeros (starts_from r v)) ∙ h) ∙ ap none (length_rest (poly r) (leads r) v (length-leads r ∙ sym (length-poly r)))
 
 -- ones are not zeros
 not_zeros : (r : ℕ) → Check r → zeros (leads r) ≡ false
@@ -137,8 +131,7 @@ module _ (r : ℕ) (k : Check r) where
   unfolding none
   stuck_caught m =
       let (h, e) = term r k in
-      refuted (divides r (leads r ++ replicate m false))
-      (λ d. false≢true (sym (not_zeros r k) ∙ ap zeros (back_all (poly r) h e m (leads r) full (left-none r (none m) d)) ∙ zeros-none (length (poly r))))
+      refuted (divides r (leads r ++ replicate m false)) (λ d. false≢true (sym (not_zeros r k) ∙ ap zeros (back_all (poly r) h e m (leads r) full (left-none r (none m) d)) ∙ zeros-none (length (poly r))))
 
   -- what 01's rule let pass, the check catches: the two differ by what is left of the ones
   pub old_caught : (f : List Bool) → divides r f ≡ true → divides r (leads r ++ f) ≡ false
@@ -146,13 +139,10 @@ module _ (r : ℕ) (k : Check r) where
   old_caught f d =
       let l : List Bool = leads r in
       let same : length (l ++ f) ≡ length (none r ++ f) = simp (length-append, length-leads, length_none) in
-      let sum : (l ++ f) ⊞ (none r ++ f) ≡ l ++ none (length f) =
-      append_⊞ l f (none r) f (length-leads r ∙ sym (length_none r)) ∙ ap₂ {C = List Bool} ◌++◌ (⊞-none l r (length-leads r)) (⊞-self f) in
-      refuted (divides r (l ++ f)) (λ x. false≢true (sym (stuck_caught (length f))
-      ∙ ap (divides r) (sym sum) ∙ divides-⊞ r (l ++ f) (none r ++ f) same x (zeros_unseen r r f ∙ d)))
+      let sum : (l ++ f) ⊞ (none r ++ f) ≡ l ++ none (length f) = append_⊞ l f (none r) f (length-leads r ∙ sym (length_none r)) ∙ ap₂ {C = List Bool} ◌++◌ (⊞-none l r (length-leads r)) (⊞-self f) in
+      refuted (divides r (l ++ f)) (λ x. false≢true (sym (stuck_caught (length f)) ∙ ap (divides r) (sym sum) ∙ divides-⊞ r (l ++ f) (none r ++ f) same x (zeros_unseen r r f ∙ d)))
 
-  pub run_caught : (t : ℕ) (f : List Bool) → 1 ≤ t → t ≤ longest_run r
-      → divides r (leads r ++ f) ≡ true → divides r (leads r ++ (replicate t false ++ f)) ≡ false
+  pub run_caught : (t : ℕ) (f : List Bool) → 1 ≤ t → t ≤ longest_run r → divides r (leads r ++ f) ≡ true → divides r (leads r ++ (replicate t false ++ f)) ≡ false
   unfolding none
   run_caught zero f h l d = absurd (omega arith)
   run_caught (suc t) f h l d =
@@ -167,9 +157,7 @@ unfolding poly leads
 once = refl
 
 pub run_unseen : (f : List Bool) → divides 6 (leads 6 ++ (replicate 63 false ++ f)) ≡ divides 6 (leads 6 ++ f)
-run_unseen f =
-    ap zeros (starts_from 6 (replicate 63 false ++ f) ∙ rest_append (poly 6) (leads 6) (replicate 63 false) f
-    ∙ ap (λ (s : List Bool). rest (poly 6) s f) once ∙ sym (starts_from 6 f))
+run_unseen f = ap zeros (starts_from 6 (replicate 63 false ++ f) ∙ rest_append (poly 6) (leads 6) (replicate 63 false) f ∙ ap (λ (s : List Bool). rest (poly 6) s f) once ∙ sym (starts_from 6 f))
 
 -- ---- a word of zeros
 
@@ -191,7 +179,7 @@ module _ (n : ℕ) (ks : List Rule) (r : ℕ) (k : Check r) where
   stuck_kept =
       let u : List Bool = polar n (none (2 ^ n)) in
       let f : List Bool = free_bits ks u in
-      let z : f ≡ none (length f) = is-none f (zeros-free ks u (ap zeros (polar-none n) ∙ zeros-none (2 ^ n))) in
+      let z : f ≡ none (length f) = is_none f (zeros-free ks u (ap zeros (polar-none n) ∙ zeros-none (2 ^ n))) in
       ap (λ (t : List Bool). keeps_rules ks u u && divides r (leads r ++ t)) z ∙ and-false (keeps_rules ks u u) _ (stuck_caught r k (length f))
 
   pub stuck_alone : candidates n ks r (replicate (2 ^ n) 0) ≡ []
@@ -202,19 +190,14 @@ module _ (n : ℕ) (s : List ℕ) (r : ℕ) (out : List ℕ) (k : Check r) where
   abbrev stuck : List ℕ
   stuck = replicate (2 ^ n) 0
 
-  pub stuck_decoded : (c : ℕ) → refuses (formRefusals n s r c stuck (length out)) ≡ false
-      → decoding n s r c stuck out ≡ leaving out (Inconsistent 0 (equations n (rules n s) r stuck))
+  pub stuck_decoded : (c : ℕ) → refuses (formRefusals n s r c stuck (length out)) ≡ false → decoding n s r c stuck out ≡ leaving out (Inconsistent 0 (equations n (rules n s) r stuck))
   unfolding verdict
   stuck_decoded c ok =
-      let g : unknowns n (rules n s) stuck ≡ 0 =
-      ap (unknowns n (rules n s)) (zero_bits (2 ^ n)) ∙ nothing-lost n (rules n s) (none (2 ^ n)) (length_none (2 ^ n)) in
-      under n s r c stuck out ok (omega arith)
-      ∙ ap₂ (λ (g : ℕ) (cs : List (List Bool)). verdict n g (equations n (rules n s) r stuck) cs out) g (stuck_alone n (rules n s) r k)
+      let g : unknowns n (rules n s) stuck ≡ 0 = ap (unknowns n (rules n s)) (zero_bits (2 ^ n)) ∙ nothing-lost n (rules n s) (none (2 ^ n)) (length_none (2 ^ n)) in
+      under n s r c stuck out ok (omega arith) ∙ ap₂ (λ (g : ℕ) (cs : List (List Bool)). verdict n g (equations n (rules n s) r stuck) cs out) g (stuck_alone n (rules n s) r k)
 
   pub stuck_read : refuses (readRefusals n s r stuck (length out)) ≡ false → readingBack n s r stuck out ≡ leaving out (Inconsistent 0 0)
   stuck_read ok =
       let word : map isOne stuck ≡ none (2 ^ n) = ap (map isOne) (zero_bits (2 ^ n)) ∙ ones_back (none (2 ^ n)) in
-      let no : keeps (rules n s) r (polar n (map isOne stuck)) ≡ false =
-      ap (λ (x : List Bool). keeps (rules n s) r (polar n x)) word ∙ stuck_kept n (rules n s) r k in
-      read_is n s r stuck out ok
-      ∙ ap (λ (t : Bool). pick t (writing (map bit (payload_of n (rules n s) r (map isOne stuck))) out Done) (leaving out (Inconsistent 0 0))) no
+      let no : keeps (rules n s) r (polar n (map isOne stuck)) ≡ false = ap (λ (x : List Bool). keeps (rules n s) r (polar n x)) word ∙ stuck_kept n (rules n s) r k in
+      read_is n s r stuck out ok ∙ ap (λ (t : Bool). pick t (writing (map bit (payload_of n (rules n s) r (map isOne stuck))) out Done) (leaving out (Inconsistent 0 0))) no

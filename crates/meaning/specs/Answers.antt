@@ -8,8 +8,7 @@
 --     Reply, reply         an answer, and the bytes of the output buffer after the call; leaving, writing, as found or written
 --     checking             the sheet alone, with its r; checking_in L, a sheet in any layout (proofs/Layouts)
 --     wording              a word alone
---     encoding, reading_back, decoding      the calls with a buffer; deciding, decoding without a fault of form
---     found_of g m d        the answer where 2 ^ d codewords agree
+--     encoding, reading_back, decoding      the calls with a buffer
 -- `s` is the sheet, `w` the word, `p` the payload, `c` the ceiling, `out` the buffer as found, `room` its length.
 use Rattle.std.specs.Prelude.{ℕ, ◌*◌, ◌-◌, ◌^◌, Bool, true, false, ◌&&◌, ◌||◌, not, List, [], ◌∷◌, ◌++◌, map, length, drop, eqb, leb, ltb}
 use Rattle.bits.specs.Vectors.{bit, pick, any, first_place}
@@ -19,8 +18,7 @@ use Rattle.meaning.specs.Codewords.{candidates, payload_of, carrying}
 use Rattle.meaning.specs.Open.{unknowns, equations}
 use Rattle.meaning.specs.Strips.{first, strips, dimension}
 use Rattle.meaning.specs.declared.Answer.{Answer}
-use Rattle.meaning.specs.declared.Answer.TheVariants.{Done, Unique, Ambiguous, Inconsistent, LaneInconsistent, BadShape, BadRecord, BadCheck}
-use Rattle.meaning.specs.declared.Answer.TheVariants.{BadLength, BadSymbol, ShortOutput, BadCeiling, TooMany, HoldsNothing, TooAmbiguous}
+use Rattle.meaning.specs.declared.Answer.TheVariants.{Done, Unique, Ambiguous, Inconsistent, LaneInconsistent, BadShape, BadRecord, BadCheck, BadLength, BadSymbol, ShortOutput, BadCeiling, TooMany, HoldsNothing}
 
 -- ---- the numbers of each answer
 
@@ -40,7 +38,6 @@ numbers_of ShortOutput = 16 ∷ 0 ∷ 0 ∷ 0 ∷ 0 ∷ []
 numbers_of BadCeiling = 17 ∷ 0 ∷ 0 ∷ 0 ∷ 0 ∷ []
 numbers_of (TooMany g) = 18 ∷ 0 ∷ g ∷ 0 ∷ 0 ∷ []
 numbers_of HoldsNothing = 19 ∷ 0 ∷ 0 ∷ 0 ∷ 0 ∷ []
-numbers_of (TooAmbiguous g m d) = 22 ∷ 0 ∷ g ∷ m ∷ d ∷ []
 
 -- whether a call can go on
 abbrev pub is_done : Answer → Bool
@@ -58,7 +55,6 @@ is_done ShortOutput = false
 is_done BadCeiling = false
 is_done (TooMany g) = false
 is_done HoldsNothing = false
-is_done (TooAmbiguous g m d) = false
 
 -- ---- refusals
 
@@ -111,16 +107,13 @@ sheet_faults n r shape bad k =
 unfoldable pub sheet_refusals : ℕ → List ℕ → ℕ → List Refusal
 sheet_refusals n s r = sheet_faults n r (badShape n s) (bad_record n s) (frees (rules n s))
 
--- 14, 15: a word not as long as wanted, its first symbol above the top
-abbrev pub symbol_refusals : ℕ → ℕ → List ℕ → List Refusal
-symbol_refusals wanted top w =
+-- 14, 15, 16: a word not as long as wanted, its first symbol above the top, an output shorter than needed
+unfoldable pub word_refusals : ℕ → ℕ → ℕ → List ℕ → ℕ → List Refusal
+word_refusals wanted top needed w room =
     (not (eqb (length w) wanted) ⇒ BadLength)
     ∷ (ltb (first_place (ltb top) w) (length w) ⇒ BadSymbol (first_place (ltb top) w))
+    ∷ (ltb room needed ⇒ ShortOutput)
     ∷ []
-
--- then 16: an output shorter than needed
-unfoldable pub word_refusals : ℕ → ℕ → ℕ → List ℕ → ℕ → List Refusal
-word_refusals wanted top needed w room = symbol_refusals wanted top w ++ ((ltb room needed ⇒ ShortOutput) ∷ [])
 
 -- 11 to 16 of a call: the sheet's faults, then those of its word and its room
 abbrev pub call_refusals : ℕ → List ℕ → ℕ → ℕ → ℕ → ℕ → List ℕ → ℕ → List Refusal
@@ -180,37 +173,19 @@ payload_read n ks r (x ∷ cs) out = writing (map bit (payload_of n ks r x)) out
 unfoldable pub reading_back : ℕ → List ℕ → ℕ → List ℕ → List ℕ → Reply
 reading_back n s r w out = first_of (leaving out) (read_refusals n s r w (length out)) (payload_read n (rules n s) r (candidates n (rules n s) r w) out)
 
--- the sheet's faults and 14 to 17, of a call that needs so many bytes a symbol: a fault of form, or no room to answer
-abbrev pub form_needing : ℕ → ℕ → List ℕ → ℕ → ℕ → List ℕ → ℕ → List Refusal
-form_needing times n s r c w room = call_refusals n s r (2 ^ n) 2 (times * 2 ^ n) w room ++ ((ltb largest_ceiling c ⇒ BadCeiling) ∷ [])
-
--- decoding needs 3N bytes
+-- decoding needs 3N bytes. The sheet's faults and 14 to 17: a fault of form, or no room to answer
 unfoldable pub form_refusals : ℕ → List ℕ → ℕ → ℕ → List ℕ → ℕ → List Refusal
-form_refusals n s r c w room = form_needing 3 n s r c w room
-
--- 18 where g is above the ceiling, else the reply z
-abbrev pub sized : ℕ → ℕ → List ℕ → Reply → Reply
-sized c g out z = pick (ltb c g) (leaving out (TooMany g)) z
+form_refusals n s r c w room = call_refusals n s r (2 ^ n) 2 (3 * 2 ^ n) w room ++ ((ltb largest_ceiling c ⇒ BadCeiling) ∷ [])
 
 -- then 18: g above the ceiling
 unfoldable pub decode_refusals : ℕ → List ℕ → ℕ → ℕ → List ℕ → ℕ → List Refusal
 decode_refusals n s r c w room = let g = unknowns n (rules n s) w in form_refusals n s r c w room ++ ((ltb c g ⇒ TooMany g) ∷ [])
-
--- the verdict where 2 ^ d codewords agree
-abbrev pub found_of : ℕ → ℕ → ℕ → Answer
-found_of g m d = pick (eqb d 0) (Unique g m) (Ambiguous g m d)
 
 -- none agrees, one does, or several do
 unfoldable pub verdict : ℕ → ℕ → ℕ → List (List Bool) → List ℕ → Reply
 verdict n g m [] out = leaving out (Inconsistent g m)
 verdict n g m (x ∷ []) out = writing (strips n (x ∷ [])) out (Unique g m)
 verdict n g m (x ∷ y ∷ cs) out = writing (strips n (x ∷ y ∷ cs)) out (Ambiguous g m (dimension (x ∷ y ∷ cs)))
-
--- what is left once no fault of form is found: 18, or the verdict
-unfoldable pub deciding : ℕ → List ℕ → ℕ → ℕ → List ℕ → List ℕ → Reply
-deciding n s r c w out =
-    let ks = rules n s in
-    sized c (unknowns n ks w) out (verdict n (unknowns n ks w) (equations n ks r w) (candidates n ks r w) out)
 
 unfoldable pub decoding : ℕ → List ℕ → ℕ → ℕ → List ℕ → List ℕ → Reply
 decoding n s r c w out =

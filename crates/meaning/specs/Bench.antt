@@ -1,5 +1,4 @@
--- 01's starred bench examples, E1 to E12 and the row with r = 6 (worked out anew for W-204), as one table: `rows`.
--- That each `holds` is proved in proofs/Bench.
+-- 01's starred bench examples, E1 to E12 and the row with r = 6 (worked out anew for W-204), as one table: `rows`. That each `holds` is proved in proofs/Bench.
 -- Each row names the sheet's bytes, the payload or the word, and the answer in full: the five numbers and every byte of a buffer that held 165.
 use Rattle.std.specs.Prelude.{ℕ, zero, suc, ◌*◌, ◌-◌, ◌/◌, ◌%◌, Bool, true, false, ◌&&◌, List, [], ◌∷◌, ◌++◌, length, drop, replicate, eqb}
 use Rattle.meaning.specs.Limits.{mask_bytes, record_bytes}

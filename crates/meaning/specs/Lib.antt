@@ -7,9 +7,7 @@
 --     Open         open positions, and the counts g and m
 --     Strips       settled, first, last; the dimension d
 --     Answers      the numbers of each answer; the refusals and the results of each call
---     Forms        what is known where no fault of form is found
 --     Said         what 01 says of decoding, sentence by sentence
---     Listing      the list of the candidates
 --     Stream       the answer record, and the output for a whole input
 --     Payload      how a codeword is made of its payload
 --     Bench        01's starred examples as a table
@@ -21,9 +19,7 @@ pub mod Codewords
 pub mod Open
 pub mod Strips
 pub mod Answers
-pub mod Forms
 pub mod Said
-pub mod Listing
 pub mod Stream
 pub mod Payload
 pub mod Bench

@@ -6,7 +6,6 @@
 --     Layout            how sheets are laid out; `layout` is today's, `oldLayout` the one before W-206, which is only converted
 --     old_largest_n, old_mask_bytes, old_record_bytes     the numbers of that one
 --     largest_ceiling    the ceiling on unknowns is 0 to this
---     largest_listed     candidates are listed for d from 0 to this
 --     head_bytes         bytes of an answer record before its strips
 --     strip_width        bytes of a strip in an answer record
 --     leads r           the bits that stand before the free bits when the check divides: r ones
@@ -49,9 +48,6 @@ old_layout = record { largest = old_largest_n; mask = old_mask_bytes; bytes = ol
 
 unfoldable pub largest_ceiling : ℕ
 largest_ceiling = 255
-
-unfoldable pub largest_listed : ℕ
-largest_listed = 8
 
 unfoldable pub head_bytes : ℕ
 head_bytes = 16

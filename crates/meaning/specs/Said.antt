@@ -10,13 +10,13 @@ use Rattle.meaning.specs.Answers.{refuses, formRefusals}
 
 pub record Said (n : ℕ) (s : List ℕ) (r c : ℕ) (w out v x : List ℕ) : Type 0 where
   -- 2: the output is untouched
-  pub two-untouched : get_or v 0 0 ≡ 2 → x ≡ out
+  pub two_untouched : get_or v 0 0 ≡ 2 → x ≡ out
   -- bytes past 3N stay
   pub rest_stays : drop (3 * 2 ^ n) x ≡ drop (3 * 2 ^ n) out
   -- 18 carries g, which is above the ceiling; the output is untouched
   pub size_told : get_or v 0 0 ≡ 18 → (get_or v 2 0 ≡ unknowns n (rules n s) w) × (c < unknowns n (rules n s) w) × (x ≡ out)
   -- where no refusal but 18 applies, code 0 exactly when one codeword agrees, and g is not above the ceiling
-  pub one-agrees : refuses (formRefusals n s r c w (length out)) ≡ false → (get_or v 0 0 ≡ 0) ↔ ((unknowns n (rules n s) w ≤ c) × OneAgrees n (rules n s) r w)
+  pub one_agrees : refuses (formRefusals n s r c w (length out)) ≡ false → (get_or v 0 0 ≡ 0) ↔ ((unknowns n (rules n s) w ≤ c) × OneAgrees n (rules n s) r w)
   -- and code 2 exactly when none does
   pub none-agrees : refuses (formRefusals n s r c w (length out)) ≡ false → (get_or v 0 0 ≡ 2) ↔ ((unknowns n (rules n s) w ≤ c) × NoneAgrees n (rules n s) r w)
   -- d ≤ g ≤ erased symbols

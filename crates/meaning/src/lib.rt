@@ -32,6 +32,4 @@ pub enum Answer {
     TooMany { g: usize },
     // 19: the sheet has no free position, so that it holds nothing. Told after 12 and before 13.
     HoldsNothing,
-    // 22: of a list, more codewords agree than are listed; d is above the largest dimension listed.
-    TooAmbiguous { g: usize, m: usize, d: usize },
 }

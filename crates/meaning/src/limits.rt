@@ -28,9 +28,6 @@ pub const OLD_POSITIONS: usize = 8 * OLD_MASK;
 // The ceiling on unknowns is 0 to this.
 pub const LARGEST_CEILING: usize = 255;
 
-// Candidates are listed for dimensions d from 0 to this.
-pub const LARGEST_LISTED: usize = 8;
-
 // Bytes of a strip of an answer record.
 pub const WIDTH: usize = 512;
 

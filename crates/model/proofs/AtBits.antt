@@ -17,8 +17,7 @@ use Rattle.meaning.specs.Transform.{polar}
 use Rattle.meaning.specs.Sheet.{Rule, free, frozen}
 use Rattle.meaning.specs.Check.{free_bits, shift, rest, poly}
 use Rattle.meaning.proofs.Polar.{polar_append, length-polar}
-use Rattle.model.specs.Model.{Walk, Out, free_of, sums, gate, scaled, named, rule_value, left_syms, right_syms}
-use Rattle.model.specs.Model.{value_at, step_at, join_out, decode, shift_of, rest_of, checks}
+use Rattle.model.specs.Model.{Walk, Out, free_of, sums, gate, scaled, named, rule_value, left_syms, right_syms, value_at, step_at, join_out, decode, shift_of, rest_of, checks}
 use Rattle.model.specs.AtBits.{bits}
 use Rattle.model.specs.Counted.{rules_from}
 use Rattle.model.proofs.Halves.{length_lefts, length_rights}
@@ -110,8 +109,7 @@ module _ (t : ℕ → Bool) where
   walk_us (k ∷ ks) (x ∷ xs) s =
       let s' = step_at (bits t) k x s in walk_us ks xs s' ∙ append_assoc s.us (value_at (bits t) k x s.us s.next ∷ []) (reads ks xs s')
 
-  walk_append : (ks ls : List Rule) (xs ys : List (Option Bool)) (s : Walk Bool)
-      → length ks ≡ length xs → walk (ks ++ ls) (xs ++ ys) s ≡ walk ls ys (walk ks xs s)
+  walk_append : (ks ls : List Rule) (xs ys : List (Option Bool)) (s : Walk Bool) → length ks ≡ length xs → walk (ks ++ ls) (xs ++ ys) s ≡ walk ls ys (walk ks xs s)
   walk_append [] ls [] ys s h = refl
   walk_append [] ls (x ∷ xs) ys s h = absurd (omega arith)
   walk_append (k ∷ ks) ls [] ys s h = absurd (omega arith)
@@ -137,8 +135,7 @@ module _ (t : ℕ → Bool) where
         × (v ≡ reads (rules_from rule (length s.us) (2 ^ n)) (leaf t n w v) s)
 
     join : (n : ℕ) (a b : List (Option Bool)) → length a ≡ 2 ^ n → length b ≡ 2 ^ n → (s : Walk Bool) (l r : Out Bool) (p q : List Bool)
-        → Found n (left_syms (bits t) a b) s l p → Found n (right_syms (bits t) a b (polar n p)) l.after r q
-        → Found (suc n) (a ++ b) s (join_out (bits t) l r) (p ++ q)
+        → Found n (left_syms (bits t) a b) s l p → Found n (right_syms (bits t) a b (polar n p)) l.after r q → Found (suc n) (a ++ b) s (join_out (bits t) l r) (p ++ q)
     join n a b la lb s l r p q (lp, bp, wp, rp) (lq, bq, wq, rq) =
         let i : ℕ = length s.us in
         let ks : List Rule = rules_from rule i (2 ^ n) in
@@ -146,18 +143,14 @@ module _ (t : ℕ → Bool) where
         let xs : List (Option Bool) = leaf t n (left_syms (bits t) a b) p in
         let ys : List (Option Bool) = leaf t n (right_syms (bits t) a b (polar n p)) q in
         let here : length l.after.us ≡ i + 2 ^ n =
-        ap (λ (o : Walk Bool). length o.us) wp ∙ ap length (walk_us ks xs s ∙ ap (λ (v : List Bool). s.us ++ v) (sym rp))
-        ∙ length-append s.us p ∙ ap (λ (k : ℕ). i + k) lp in
+        ap (λ (o : Walk Bool). length o.us) wp ∙ ap length (walk_us ks xs s ∙ ap (λ (v : List Bool). s.us ++ v) (sym rp)) ∙ length-append s.us p ∙ ap (λ (k : ℕ). i + k) lp in
         let eks : rules_from rule i (2 ^ suc n) ≡ ks ++ ls = rules_halves rule i n ∙ ap (λ (k : ℕ). ks ++ rules_from rule k (2 ^ n)) (sym here) in
         let exs : leaf t (suc n) (a ++ b) (p ++ q) ≡ xs ++ ys = leaf_append t n a b p q la lp in
-        let lx : length ks ≡ length xs =
-        length-tab (2 ^ n) (λ (j : ℕ). rule (i + j)) ∙ sym (length_leaf t n p lp (left_syms (bits t) a b) (length_lefts (bits t) (2 ^ n) a b la lb)) in (
+        let lx : length ks ≡ length xs = length-tab (2 ^ n) (λ (j : ℕ). rule (i + j)) ∙ sym (length_leaf t n p lp (left_syms (bits t) a b) (length_lefts (bits t) (2 ^ n) a b la lb)) in (
           simp length-append (omega arith),
-          ap₂ {C = List Bool} (λ (x y : List Bool). sums (bits t) x y ++ y) bp bq
-              ∙ ap (λ (x : List Bool). x ++ polar n q) (sums-⊞ (polar n p) (polar n q)) ∙ sym (polar_append n p q lp),
+          ap₂ {C = List Bool} (λ (x y : List Bool). sums (bits t) x y ++ y) bp bq ∙ ap (λ (x : List Bool). x ++ polar n q) (sums-⊞ (polar n p) (polar n q)) ∙ sym (polar_append n p q lp),
           wq ∙ ap (walk ls ys) wp ∙ sym (walk_append ks ls xs ys s lx) ∙ ap₂ (λ (u : List Rule) (z : List (Option Bool)). walk u z s) (sym eks) (sym exs),
-          ap₂ {C = List Bool} ◌++◌ rp (rq ∙ ap (reads ls ys) wp) ∙ sym (reads_append ks ls xs ys s lx)
-              ∙ ap₂ (λ (u : List Rule) (z : List (Option Bool)). reads u z s) (sym eks) (sym exs),
+          ap₂ {C = List Bool} ◌++◌ rp (rq ∙ ap (reads ls ys) wp) ∙ sym (reads_append ks ls xs ys s lx) ∙ ap₂ (λ (u : List Rule) (z : List (Option Bool)). reads u z s) (sym eks) (sym exs),
         )
 
     abbrev Finds : ℕ → Type 0
@@ -170,11 +163,8 @@ module _ (t : ℕ → Bool) where
     second n ih a b la lb s l p fp =
         let e : l.block ≡ polar n p = fp.1 in
         let (q, fq) = ih (right_syms (bits t) a b (polar n p)) (length_rights (bits t) (2 ^ n) a b (polar n p) la lb (length-polar n p fp.0)) l.after in
-        let r : List Bool → Out Bool = λ x. decode (bits t) rule n (right_syms (bits t) a b x) l.after in (
-          p ++ q,
-          subst (λ (x : List Bool). Found (suc n) (a ++ b) s (join_out (bits t) l (r x)) (p ++ q))
-              (sym e) (join n a b la lb s l (r (polar n p)) p q fp fq),
-        )
+        let r : List Bool → Out Bool = λ x. decode (bits t) rule n (right_syms (bits t) a b x) l.after in
+        (p ++ q, subst (λ (x : List Bool). Found (suc n) (a ++ b) s (join_out (bits t) l (r x)) (p ++ q)) (sym e) (join n a b la lb s l (r (polar n p)) p q fp fq))
 
     pub found : (n : ℕ) → Finds n
     unfolding decode polar leaf

@@ -45,13 +45,11 @@ module _ (rule : ℕ → Rule) (n : ℕ) (w : List ℕ) (lw : length w ≡ 2 ^ n
         let e : map lost xs ≡ open_all n w = lost_leaf t n v lv syms l_syms ∙ opens-symbols (bits t) n w lw in
         let g : ℕ = ones (open_free ks (open_all n w)) in
         let (p, q) = reads_kept t ks xs start ok v rv in
-        let q' : o.after.eqs ≡ residuals ks (open_all n w) v v =
-        ap (λ (s : Walk Bool). s.eqs) wv ∙ q ∙ ap₂ (λ (f y : List Bool). residuals ks f v y) e (sym rv) in
+        let q' : o.after.eqs ≡ residuals ks (open_all n w) v v = ap (λ (s : Walk Bool). s.eqs) wv ∙ q ∙ ap₂ (λ (f y : List Bool). residuals ks f v y) e (sym rv) in
         record {
           size = lv;
           block = sym bv;
-          agree =
-              ap (agrees w) bv ∙ sym (agrees-symbols t w (polar n v)) ∙ agrees_leaf t n v lv syms l_syms ∙ ap (agrees_syms xs) rv ∙ reads_agrees t ks xs start;
+          agree = ap (agrees w) bv ∙ sym (agrees-symbols t w (polar n v)) ∙ agrees_leaf t n v lv syms l_syms ∙ ap (agrees_syms xs) rv ∙ reads_agrees t ks xs start;
           given = ap₂ picked (ap (open_free ks) (sym e)) rv ∙ reads_given t ks xs start
               ∙ ap (λ (f : List Bool). tab (ones (open_free ks f)) (λ (j : ℕ). t (0 + j))) e ∙ tab_ext g (λ (j : ℕ). t (0 + j)) t (λ j. ap t (zero-add j));
           kept = ap₂ (λ (f y : List Bool). kept_open ks f v y) (sym e) rv ∙ p;
@@ -65,5 +63,4 @@ module _ (rule : ℕ → Rule) (n : ℕ) (w : List ℕ) (lw : length w ≡ 2 ^ n
       let (v, (lv, bv, wv, rv)) = found t rule n syms l_syms start in
       let wv' : o.after ≡ walk t ks (leaf t n syms v) start = wv ∙ ap (λ (l : List Rule). walk t l (leaf t n syms v) start) (rules-start rule (2 ^ n)) in
       let rv' : v ≡ reads t ks (leaf t n syms v) start = rv ∙ ap (λ (l : List Rule). reads t l (leaf t n syms v) start) (rules-start rule (2 ^ n)) in
-      subst (λ (u : List Bool). Decoded rule n r w t u o.block (o.after.eqs ++ checks (bits t) r ks u))
-      (sym (us_v r o v lv bv wv' rv')) (at_v r o v lv bv wv' rv')
+      subst (λ (u : List Bool). Decoded rule n r w t u o.block (o.after.eqs ++ checks (bits t) r ks u)) (sym (us_v r o v lv bv wv' rv')) (at_v r o v lv bv wv' rv')

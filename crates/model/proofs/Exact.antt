@@ -34,10 +34,8 @@ use Rattle.model.proofs.Walked.{rules-split}
 -- ---- two vectors that agree with a word and keep the rules where they are open first part at an open free position
 
 -- U and W are equal up to place j, where they hold a and b; ks are the rules from i on
-module _ (U W : List Bool) (j : ℕ) (agree : (m : List Bool) → zeros (drop j m) ≡ true → odd m U ≡ odd m W)
-    (a b : Bool) (u v : List Bool) (ab : a ⊕ b ≡ true) where
-  free-parts : (i : ℕ) (ks : List Rule) (o c : List Bool) → i + length c ≡ j → early i ks ≡ true
-      → kept_open ks o U (c ++ a ∷ u) ≡ true → kept_open ks o W (c ++ b ∷ v) ≡ true
+module _ (U W : List Bool) (j : ℕ) (agree : (m : List Bool) → zeros (drop j m) ≡ true → odd m U ≡ odd m W) (a b : Bool) (u v : List Bool) (ab : a ⊕ b ≡ true) where
+  free-parts : (i : ℕ) (ks : List Rule) (o c : List Bool) → i + length c ≡ j → early i ks ≡ true → kept_open ks o U (c ++ a ∷ u) ≡ true → kept_open ks o W (c ++ b ∷ v) ≡ true
       → length c < length ks → get_or o (length c) false ≡ true → get_or (open_free ks o) (length c) false ≡ true
   free-parts i [] o c e h p q l g = absurd (omega arith)
   free-parts i (k ∷ ks) [] c e h p q l g = g
@@ -51,13 +49,12 @@ module _ (U W : List Bool) (j : ℕ) (agree : (m : List Bool) → zeros (drop j 
       absurd (true≢false (sym ab ∙ ap₂ ◌⊕◌ ea (eb ∙ ap (λ (t : Bool). s ⊕ t) (sym em)) ∙ ⊕-self (s ⊕ odd m U)))
   free-parts i (free ∷ ks) (x ∷ o) (y ∷ c) e h p q l g = free-parts (suc i) ks o c (omega arith) h p q (omega arith) g
   free-parts i (frozen s m ∷ ks) (true ∷ o) (y ∷ c) e h p q l g =
-      free-parts (suc i) ks o c (omega arith) (and_r (zeros (drop i m)) _ h)
-      (and_r (not (y ⊕ (s ⊕ odd m U))) _ p) (and_r (not (y ⊕ (s ⊕ odd m W))) _ q) (omega arith) g
+      free-parts (suc i) ks o c (omega arith) (and_r (zeros (drop i m)) _ h) (and_r (not (y ⊕ (s ⊕ odd m U))) _ p) (and_r (not (y ⊕ (s ⊕ odd m W))) _ q) (omega arith) g
   free-parts i (frozen s m ∷ ks) (false ∷ o) (y ∷ c) e h p q l g = free-parts (suc i) ks o c (omega arith) (and_r (zeros (drop i m)) _ h) p q (omega arith) g
 
 -- the codeword agrees with the word, and the open frozen positions keep their rules
-unfoldable pub fits_open : ℕ → List Rule → List ℕ → List Bool → Bool
-fits_open n ks w u = agrees w (polar n u) && kept_open ks (open_all n w) u u
+unfoldable pub fitting : ℕ → List Rule → List ℕ → List Bool → Bool
+fitting n ks w u = agrees w (polar n u) && kept_open ks (open_all n w) u u
 
 -- the bits at the open free positions
 unfoldable pub chosen : ℕ → List Rule → List ℕ → List Bool → List Bool
@@ -67,16 +64,15 @@ length_open : (n : ℕ) (w : List ℕ) → length (open_all n w) ≡ 2 ^ n
 unfolding open_all
 length_open n w = length-tab (2 ^ n) (is_open n (map erased w))
 
-fits_open_parts : (n : ℕ) (ks : List Rule) (w : List ℕ) → length ks ≡ 2 ^ n → early 0 ks ≡ true → Parts (fits_open n ks w) (open_free ks (open_all n w))
-unfolding open_all fits_open
-fits_open_parts n ks w lk ok c u v a b l k p q ab =
+fitting-parts : (n : ℕ) (ks : List Rule) (w : List ℕ) → length ks ≡ 2 ^ n → early 0 ks ≡ true → Parts (fitting n ks w) (open_free ks (open_all n w))
+unfolding open_all fitting
+fitting-parts n ks w lk ok c u v a b l k p q ab =
     let lf = length-open_free ks (open_all n w) (lk ∙ sym (length_open n w)) ∙ length_open n w in
     let lc : length c < 2 ^ n = omega (arith, simp length-append at (l ∙ lf)) in
     free-parts (c ++ a ∷ u) (c ++ b ∷ v) (length c) (λ m z. odd-early m c (a ∷ u) (b ∷ v) z) a b u v ab 0 ks (open_all n w) c (zero-add (length c)) ok
     (and_r (agrees w (polar n (c ++ a ∷ u))) _ p) (and_r (agrees w (polar n (c ++ b ∷ v))) _ q) (omega arith)
     (tab-at (2 ^ n) (is_open n (map erased w)) (length c) false lc
-    ∙ parts_open n w c u v a b (l ∙ lf) k (and_l _ (kept_open ks (open_all n w) (c ++ a ∷ u) (c ++ a ∷ u)) p)
-    (and_l _ (kept_open ks (open_all n w) (c ++ b ∷ v) (c ++ b ∷ v)) q) ab)
+    ∙ parts_open n w c u v a b (l ∙ lf) k (and_l _ (kept_open ks (open_all n w) (c ++ a ∷ u) (c ++ a ∷ u)) p) (and_l _ (kept_open ks (open_all n w) (c ++ b ∷ v) (c ++ b ∷ v)) q) ab)
 
 -- ---- the model at a list t of bits for the unknowns
 
@@ -98,8 +94,8 @@ module _ (rule : ℕ → Rule) (n : ℕ) (w : List ℕ) (lw : length w ≡ 2 ^ n
   unfolding u_at x_at
   polar-u_at t = (decoded rule n w lw ok (assign t) 0).block
 
-  u_at-fits : (t : List Bool) → fits_open n ks w (u_at rule n w t) ≡ true
-  unfolding u_at fits_open
+  u_at-fits : (t : List Bool) → fitting n ks w (u_at rule n w t) ≡ true
+  unfolding u_at fitting
   u_at-fits t = let d = decoded rule n w lw ok (assign t) 0 in and_i _ _ (ap (agrees w) d.block ∙ d.agree) d.kept
 
   -- its open free positions hold t
@@ -111,20 +107,19 @@ module _ (rule : ℕ → Rule) (n : ℕ) (w : List ℕ) (lw : length w ≡ 2 ^ n
   unfolding chosen unknowns
   chosen-length u lu = length-picked (open_free ks (open_all n w)) u (lf ∙ sym lu)
 
-  -- such a vector is the model's at its own bits
-  pub u_at-chosen : (u : List Bool) → length u ≡ 2 ^ n → fits_open n ks w u ≡ true → u_at rule n w (chosen n ks w u) ≡ u
+  -- a fitting vector is the model's at its own bits
+  pub u_at-chosen : (u : List Bool) → length u ≡ 2 ^ n → fitting n ks w u ≡ true → u_at rule n w (chosen n ks w u) ≡ u
   unfolding chosen
   u_at-chosen u lu f =
       let t = chosen n ks w u in
-      picked_same (open_free ks (open_all n w)) (fits_open n ks w) (fits_open_parts n ks w lk ok)
-      (u_at rule n w t) u (u_at-length t ∙ sym lf) (lu ∙ sym lf) (u_at-fits t) f
+      picked_same (open_free ks (open_all n w)) (fitting n ks w) (fitting-parts n ks w lk ok) (u_at rule n w t) u (u_at-length t ∙ sym lf) (lu ∙ sym lf) (u_at-fits t) f
       (chosen-u_at t (chosen-length u lu))
 
   -- the order, both ways
   pub u_at-before : (s t : List Bool) → length s ≡ unknowns n ks w → length t ≡ unknowns n ks w → before (u_at rule n w s) (u_at rule n w t) ≡ before s t
   unfolding chosen
   u_at-before s t ls lt =
-      sym (picked-before (open_free ks (open_all n w)) (fits_open n ks w) (fits_open_parts n ks w lk ok) (u_at rule n w s) (u_at rule n w t)
+      sym (picked-before (open_free ks (open_all n w)) (fitting n ks w) (fitting-parts n ks w lk ok) (u_at rule n w s) (u_at rule n w t)
       (u_at-length s ∙ sym lf) (u_at-length t ∙ sym lf) (u_at-fits s) (u_at-fits t))
       ∙ ap₂ before (chosen-u_at s ls) (chosen-u_at t lt)
 
@@ -142,12 +137,11 @@ module _ (rule : ℕ → Rule) (n : ℕ) (w : List ℕ) (lw : length w ≡ 2 ^ n
         rw (d.block, d.agree, rules-split ks o u u (lk ∙ sym (length_open n w)), d.kept, d.left, zeros_append (residuals ks o u u) c)
         (and-true (zeros (residuals ks o u u) && zeros c))
 
-    pub passes_fits : (u : List Bool) → passes n ks r w u ≡ true → fits_open n ks w u ≡ true
-    unfolding passes keeps fits_open
+    pub passes_fits : (u : List Bool) → passes n ks r w u ≡ true → fitting n ks w u ≡ true
+    unfolding passes keeps fitting
     passes_fits u p =
         let k : keeps_rules ks u u ≡ true = and_l (keeps_rules ks u u) _ (and_l (keeps ks r u) _ p) in
-        and_i _ _ (and_r (keeps ks r u) _ p) (and_l _ (zeros (residuals ks (open_all n w) u u))
-        (sym (rules-split ks (open_all n w) u u (lk ∙ sym (length_open n w))) ∙ k))
+        and_i _ _ (and_r (keeps ks r u) _ p) (and_l _ (zeros (residuals ks (open_all n w) u u)) (sym (rules-split ks (open_all n w) u u (lk ∙ sym (length_open n w))) ∙ k))
 
     pub chosen-solves : (u : List Bool) → length u ≡ 2 ^ n → passes n ks r w u ≡ true → solves rule n r w (chosen n ks w u) ≡ true
     chosen-solves u lu p = sym (passes_solves (chosen n ks w u)) ∙ ap (passes n ks r w) (u_at-chosen u lu (passes_fits u p)) ∙ p

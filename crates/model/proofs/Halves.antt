@@ -144,8 +144,7 @@ module _ (t : ℕ → Bool) where
       (agrees-block a b v w (suc_inj h) (suc_inj k) (suc_inj l))
 
   pub agrees_halves : (n : ℕ) (a b : List (Option Bool)) (p q : List Bool) → length a ≡ 2 ^ n → length b ≡ 2 ^ n → length p ≡ 2 ^ n → length q ≡ 2 ^ n
-      → agrees_syms (a ++ b) (polar (suc n) (p ++ q)) ≡ agrees_syms (left_syms (bits t) a b) (polar n p)
-      && agrees_syms (right_syms (bits t) a b (polar n p)) (polar n q)
+      → agrees_syms (a ++ b) (polar (suc n) (p ++ q)) ≡ agrees_syms (left_syms (bits t) a b) (polar n p) && agrees_syms (right_syms (bits t) a b (polar n p)) (polar n q)
   agrees_halves n a b p q la lb lp lq =
       let lv = length-polar n p lp in
       let lw = length-polar n q lq in

@@ -52,8 +52,7 @@ module _ (t : ℕ → Bool) where
         ih q lq (right_syms (bits t) a b (polar n p)) (length_rights (bits t) (2 ^ n) a b (polar n p) la lb (length-polar n p lp)),
       ))))
 
-  pub agrees_leaf : (n : ℕ) (u : List Bool) → length u ≡ 2 ^ n → (w : List (Option Bool))
-      → length w ≡ 2 ^ n → agrees_syms w (polar n u) ≡ agrees_syms (leaf n w u) u
+  pub agrees_leaf : (n : ℕ) (u : List Bool) → length u ≡ 2 ^ n → (w : List (Option Bool)) → length w ≡ 2 ^ n → agrees_syms w (polar n u) ≡ agrees_syms (leaf n w u) u
   unfolding leaf polar
   agrees_leaf = splits (λ n u. (w : List (Option Bool)) → length w ≡ 2 ^ n → agrees_syms w (polar n u) ≡ agrees_syms (leaf n w u) u) (λ b w h. refl)
       (λ n ih p q lp lq. in_halves n (λ w. agrees_syms w (polar (suc n) (p ++ q)) ≡ agrees_syms (leaf (suc n) w (p ++ q)) (p ++ q))
@@ -62,8 +61,7 @@ module _ (t : ℕ → Bool) where
       let r = right_syms (bits t) a b (polar n p) in
       let ll = length_lefts (bits t) (2 ^ n) a b la lb in
       agrees_halves t n a b p q la lb lp lq ∙ ap₂ ◌&&◌ (ih p lp l ll) (ih q lq r (length_rights (bits t) (2 ^ n) a b (polar n p) la lb (length-polar n p lp)))
-      ∙ sym (ap (λ (x : List (Option Bool)). agrees_syms x (p ++ q)) (leaf_append n a b p q la lp)
-      ∙ agrees_append (leaf n l p) (leaf n r q) p q (length_leaf n p lp l ll ∙ sym lp))))
+      ∙ sym (ap (λ (x : List (Option Bool)). agrees_syms x (p ++ q)) (leaf_append n a b p q la lp) ∙ agrees_append (leaf n l p) (leaf n r q) p q (length_leaf n p lp l ll ∙ sym lp))))
 
   -- whatever the bits before it
   pub lost_leaf : (n : ℕ) (u : List Bool) → length u ≡ 2 ^ n → (w : List (Option Bool)) → length w ≡ 2 ^ n → map lost (leaf n w u) ≡ opens n (map lost w)
@@ -75,6 +73,5 @@ module _ (t : ℕ → Bool) where
       let r = right_syms (bits t) a b (polar n p) in
       ap (map lost) (leaf_append n a b p q la lp) ∙ map-append lost (leaf n l p) (leaf n r q)
       ∙ ap₂ {C = List Bool} ◌++◌ (ih p lp l (length_lefts (bits t) (2 ^ n) a b la lb) ∙ ap (opens n) (lost_lefts (bits t) a b))
-      (ih q lq r (length_rights (bits t) (2 ^ n) a b (polar n p) la lb (length-polar n p lp))
-      ∙ ap (opens n) (lost_rights (bits t) a b (polar n p) (la ∙ sym (length-polar n p lp))))
+      (ih q lq r (length_rights (bits t) (2 ^ n) a b (polar n p) la lb (length-polar n p lp)) ∙ ap (opens n) (lost_rights (bits t) a b (polar n p) (la ∙ sym (length-polar n p lp))))
       ∙ sym (ap (opens (suc n)) (map-append lost a b) ∙ opens_append n (map lost a) (map lost b) (length-map a lost ∙ la))))

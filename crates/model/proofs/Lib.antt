@@ -9,8 +9,6 @@
 --     Exact      the candidates are the model's codewords at the solutions
 --     Steps      what a proof of code cites: the cases of the recursion, and its counts
 --     RowValues  the same of rows, from symbols that have rows
---     OneBit     the rows of 0, 1 and the unknowns
---     RowsWithin no row that the model finds has a coefficient beyond the unknowns
 pub mod Relate
 pub mod Halves
 pub mod Leaf
@@ -21,5 +19,3 @@ pub mod Listed
 pub mod Exact
 pub mod Steps
 pub mod RowValues
-pub mod OneBit
-pub mod RowsWithin

@@ -30,8 +30,7 @@ before_total (true ∷ u) (false ∷ v) l p q = absurd (q refl)
 before_total (true ∷ u) (true ∷ v) l p q = ap {B = List Bool} (λ (x : List Bool). true ∷ x) (before_total u v (suc_inj l) p q)
 
 -- a map that keeps the order keeps lists in order
-module _ {A B : Type 0} (lt : A → A → Type 0) (lt' : B → B → Type 0) (f : A → B)
-    (P : A → Type 0) (rise : (a b : A) → P a → P b → lt a b → lt' (f a) (f b)) where
+module _ {A B : Type 0} (lt : A → A → Type 0) (lt' : B → B → Type 0) (f : A → B) (P : A → Type 0) (rise : (a b : A) → P a → P b → lt a b → lt' (f a) (f b)) where
   rises_map : (l : List A) → ((a : A) → Memᴰ a l → P a) → Rises lt l → Rises lt' (map f l)
   rises_map [] h r = tt
   rises_map (x ∷ l) h r = (below l (λ a m. h a (Memᴰ.tail m)) r.0, rises_map l (λ a m. h a (Memᴰ.tail m)) r.1)
@@ -70,8 +69,7 @@ length-picked (true ∷ fs) (b ∷ v) h = ap suc (length-picked fs v (suc_inj h)
 length-picked (false ∷ fs) (b ∷ v) h = length-picked fs v (suc_inj h) ∙ sym (zero-add (ones fs))
 
 -- of vectors that pass a test and, two by two, first part at a flagged place, these bits tell the order
-pub picked-before : (fs : List Bool) (p : List Bool → Bool) → Parts p fs
-    → (u v : List Bool) → length u ≡ length fs → length v ≡ length fs → p u ≡ true → p v ≡ true
+pub picked-before : (fs : List Bool) (p : List Bool → Bool) → Parts p fs → (u v : List Bool) → length u ≡ length fs → length v ≡ length fs → p u ≡ true → p v ≡ true
     → before (picked fs u) (picked fs v) ≡ before u v
 picked-before [] p h [] v lu lv pu pv = refl
 picked-before [] p h (a ∷ u) v lu lv pu pv = absurd (omega arith)
@@ -82,8 +80,7 @@ picked-before (f ∷ fs) p h (a ∷ u) (b ∷ v) lu lv pu pv =
     (λ x. picked-before fs (p ▹ x) (λ c u v a b l k q r s. h (x ∷ c) u v a b (ap suc l) k q r s) u v (suc_inj lu) (suc_inj lv))
     (h [] u v a b lu (suc_inj lu ∙ sym (suc_inj lv)) pu pv)
   where
-    go : (f a b : Bool) → p (a ∷ u) ≡ true → p (b ∷ v) ≡ true
-        → ((x : Bool) → p (x ∷ u) ≡ true → p (x ∷ v) ≡ true → before (picked fs u) (picked fs v) ≡ before u v)
+    go : (f a b : Bool) → p (a ∷ u) ≡ true → p (b ∷ v) ≡ true → ((x : Bool) → p (x ∷ u) ≡ true → p (x ∷ v) ≡ true → before (picked fs u) (picked fs v) ≡ before u v)
         → (a ⊕ b ≡ true → f ≡ true) → before (picked (f ∷ fs) (a ∷ u)) (picked (f ∷ fs) (b ∷ v)) ≡ before (a ∷ u) (b ∷ v)
     go true false false x y ih d = ih false x y
     go true true true x y ih d = ih true x y
@@ -95,8 +92,7 @@ picked-before (f ∷ fs) p h (a ∷ u) (b ∷ v) lu lv pu pv =
     go false true false x y ih d = absurd (false≢true (d refl))
 
 -- and which vector it is
-pub picked_same : (fs : List Bool) (p : List Bool → Bool) → Parts p fs → (u v : List Bool)
-    → length u ≡ length fs → length v ≡ length fs → p u ≡ true → p v ≡ true
+pub picked_same : (fs : List Bool) (p : List Bool → Bool) → Parts p fs → (u v : List Bool) → length u ≡ length fs → length v ≡ length fs → p u ≡ true → p v ≡ true
     → picked fs u ≡ picked fs v → u ≡ v
 picked_same fs p h u v lu lv pu pv e =
     before_total u v (lu ∙ sym lv)

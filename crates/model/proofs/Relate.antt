@@ -110,16 +110,13 @@ module _ {A B : Type 0} {R : A → B → Type 0} (lim : ℕ) (𝓐 : Values A) (
       one gone gone r = gone
       one (known p) gone r = known (𝓡.plus p r)
 
-  bound_at : (k : Rule) {w : List (Option A)} {y : List (Option B)} → Along (Sym R) w y
-      → {s : Walk A} {t : Walk B} → BoundWalk R s t → (out_at 𝓐 k w s).after.next ≤ lim
+  bound_at : (k : Rule) {w : List (Option A)} {y : List (Option B)} → Along (Sym R) w y → {s : Walk A} {t : Walk B} → BoundWalk R s t → (out_at 𝓐 k w s).after.next ≤ lim
       → BoundOut R (out_at 𝓐 k w s) (out_at 𝓑 k y t)
   bound_at k nil b i = record { block = nil; after = b }
   bound_at k (cons {a = x} {b = y} h p) {s} {t} b i =
-      let e = value k h i in
-      record { block = cons e nil; after = record { us = along_append b.us (cons e nil); next = step k h; eqs = along_append b.eqs (equation k h) } }
+      let e = value k h i in record { block = cons e nil; after = record { us = along_append b.us (cons e nil); next = step k h; eqs = along_append b.eqs (equation k h) } }
     where
-      value : (k : Rule) {x : Option A} {y : Option B} → Sym R x y → next_at k x s.next ≤ lim
-          → R (value_at 𝓐 k x s.us s.next) (value_at 𝓑 k y t.us t.next)
+      value : (k : Rule) {x : Option A} {y : Option B} → Sym R x y → next_at k x s.next ≤ lim → R (value_at 𝓐 k x s.us s.next) (value_at 𝓑 k y t.us t.next)
       value k (known q) j = q
       value free gone j = subst (λ (i : ℕ). R (𝓐.unknown s.next) (𝓑.unknown i)) b.next (𝓡.unknown s.next j)
       value (frozen c m) gone j = bound_rule c m b.us
@@ -138,8 +135,7 @@ module _ {A B : Type 0} {R : A → B → Type 0} (lim : ℕ) (𝓐 : Values A) (
       → (decode 𝓐 rule n w s).after.next ≤ lim → BoundOut R (decode 𝓐 rule n w s) (decode 𝓑 rule n y t)
   unfolding decode
   decode_bound rule zero {w} {y} p {s} {t} b i =
-      subst (λ (i : ℕ). BoundOut R (out_at 𝓐 (rule (length s.us)) w s) (out_at 𝓑 (rule i) y t))
-      (along_length b.us) (bound_at (rule (length s.us)) p b i)
+      subst (λ (i : ℕ). BoundOut R (out_at 𝓐 (rule (length s.us)) w s) (out_at 𝓑 (rule i) y t)) (along_length b.us) (bound_at (rule (length s.us)) p b i)
   decode_bound rule (suc n) {w} p {s} b i =
       let o = decode 𝓐 rule n (left_syms 𝓐 (take (2 ^ n) w) (drop (2 ^ n) w)) s in
       let j : o.after.next ≤ lim = omega (arith, decode_grows 𝓐 rule n (right_syms 𝓐 (take (2 ^ n) w) (drop (2 ^ n) w) o.block) o.after) in
@@ -158,8 +154,7 @@ module _ {A B : Type 0} {R : A → B → Type 0} (lim : ℕ) (𝓐 : Values A) (
   bound_rest g p (cons h t) = bound_rest g (bound_shift g p h) t
 
   pub checks_bound : (r : ℕ) (ks : List Rule) {l : List A} {m : List B} → Along R l m → Along R (checks 𝓐 r ks l) (checks 𝓑 r ks m)
-  checks_bound r ks p =
-      bound_rest (poly r) (along_replicate r 𝓐.nought 𝓑.nought 𝓡.nought) (along_append (bound_scaled (leads r) 𝓡.unit) (along_free ks p))
+  checks_bound r ks p = bound_rest (poly r) (along_replicate r 𝓐.nought 𝓑.nought 𝓡.nought) (along_append (bound_scaled (leads r) 𝓡.unit) (along_free ks p))
 
   -- ---- a word
 
@@ -213,12 +208,10 @@ module _ {A B : Type 0} (h : A → B) where
       unknown = λ k i. 𝓗.unknown k;
     }
 
-    pub decode-map : (rule : ℕ → Rule) (n : ℕ) (w : List (Option A)) (s : Walk A)
-        → map_out h (decode 𝓐 rule n w s) ≡ decode 𝓑 rule n (map (map_sym h) w) (map_walk h s)
+    pub decode-map : (rule : ℕ → Rule) (n : ℕ) (w : List (Option A)) (s : Walk A) → map_out h (decode 𝓐 rule n w s) ≡ decode 𝓑 rule n (map (map_sym h) w) (map_walk h s)
     decode-map rule n w s =
         let lim = (decode 𝓐 rule n w s).after.next in
-        out-map (decode_bound lim 𝓐 𝓑 (hom_bound lim) rule n (syms_along w)
-        (record { us = map_along s.us; next = refl; eqs = map_along s.eqs }) (omega arith))
+        out-map (decode_bound lim 𝓐 𝓑 (hom_bound lim) rule n (syms_along w) (record { us = map_along s.us; next = refl; eqs = map_along s.eqs }) (omega arith))
 
     pub run-map : (rule : ℕ → Rule) (n : ℕ) (w : List ℕ) → map_out h (run 𝓐 rule n w) ≡ run 𝓑 rule n w
     run-map rule n w = let lim = (run 𝓐 rule n w).after.next in out-map (run_bound lim 𝓐 𝓑 (hom_bound lim) rule n w (omega arith))

@@ -61,16 +61,13 @@ module _ (c w : ℕ) (rule : ℕ → Rule) (n : ℕ) (d : List ℕ) (f : ℕ →
   rows_bound : ((j : ℕ) → j < length d → length (f j) ≡ w) → BoundOut (HasWords w) O O
   rows_bound k =
       let lim = O.after.next in
-      decode_bound lim (row_values c w) (row_values c w) (words_bound lim c w) rule n
-      (placed-wide w d f k) {s = start} {t = start} (record { us = nil; next = refl; eqs = nil }) (omega arith)
+      decode_bound lim (row_values c w) (row_values c w) (words_bound lim c w) rule n (placed-wide w d f k) {s = start} {t = start} (record { us = nil; next = refl; eqs = nil }) (omega arith)
 
   pub rows-wide : ((j : ℕ) → j < length d → length (f j) ≡ w) → Wide w O.block × Wide w O.after.us × Wide w O.after.eqs
   rows-wide k = let b = rows_bound k in (along_wide b.block, along_wide b.after.us, along_wide b.after.eqs)
 
   pub system-wide : ((j : ℕ) → j < length d → length (f j) ≡ w) → (r : ℕ) → Wide w (rows_system c w rule n d f r)
-  system-wide k r =
-      along_wide (along_append (rows_bound k).after.eqs
-      (checks_bound O.after.next (row_values c w) (row_values c w) (words_bound O.after.next c w) r (tab (2 ^ n) rule) (rows_bound k).after.us))
+  system-wide k r = along_wide (along_append (rows_bound k).after.eqs (checks_bound O.after.next (row_values c w) (row_values c w) (words_bound O.after.next c w) r (tab (2 ^ n) rule) (rows_bound k).after.us))
 
   -- ---- how many
 
@@ -103,5 +100,4 @@ module _ (c w : ℕ) (rule : ℕ → Rule) (n : ℕ) (d : List ℕ) (f : ℕ →
     pub rows-equations : (r : ℕ) → length O.after.eqs + r ≡ equations n (tab (2 ^ n) rule) r d
     unfolding equations
     rows-equations r =
-        ap (λ (k : ℕ). k + r) (placed-counted.eqs ∙ zero-add _
-        ∙ ap₂ (λ (ks : List Rule) (o : List Bool). ones (closed_frozen ks o)) (rules-start rule (2 ^ n)) opens-placed)
+        ap (λ (k : ℕ). k + r) (placed-counted.eqs ∙ zero-add _ ∙ ap₂ (λ (ks : List Rule) (o : List Bool). ones (closed_frozen ks o)) (rules-start rule (2 ^ n)) opens-placed)

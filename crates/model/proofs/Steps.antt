@@ -1,5 +1,5 @@
 -- What a proof of code cites of `decode`, for any values.
---     decode-one, decode_halves         its two cases
+--     decode_one, decode_halves         its two cases
 --     decode-behind                     the equations so far are only passed on: a solver can be fed each one as it comes
 --     decode-most                       a block of 2 ^ n symbols has at most so many equations
 --     length-checks                     the check has r equations
@@ -32,13 +32,12 @@ use Rattle.model.proofs.Walked.{walk_next, walk_many}
 -- ---- the cases of `decode`, and the equations so far
 
 module _ {A : Type 0} (𝓥 : Values A) (rule : ℕ → Rule) where
-  pub decode-one : (x : Option A) (s : Walk A) → decode 𝓥 rule 0 (x ∷ []) s ≡ out_at 𝓥 (rule (length s.us)) (x ∷ []) s
+  pub decode_one : (x : Option A) (s : Walk A) → decode 𝓥 rule 0 (x ∷ []) s ≡ out_at 𝓥 (rule (length s.us)) (x ∷ []) s
   unfolding decode
-  decode-one x s = refl
+  decode_one x s = refl
 
   pub decode_halves : (n : ℕ) (a b : List (Option A)) → length a ≡ 2 ^ n → (s : Walk A)
-      → decode 𝓥 rule (suc n) (a ++ b) s ≡ (let l = decode 𝓥 rule n (left_syms 𝓥 a b) s in
-      join_out 𝓥 l (decode 𝓥 rule n (right_syms 𝓥 a b l.block) l.after))
+      → decode 𝓥 rule (suc n) (a ++ b) s ≡ (let l = decode 𝓥 rule n (left_syms 𝓥 a b) s in join_out 𝓥 l (decode 𝓥 rule n (right_syms 𝓥 a b l.block) l.after))
   unfolding decode
   decode_halves n a b la s = rw (take_at a b (2 ^ n) la, drop_at a b (2 ^ n) la)
 
@@ -48,13 +47,11 @@ module _ {A : Type 0} (𝓥 : Values A) (rule : ℕ → Rule) where
 
   behind_twice : (es fs : List A) (o : Out A) → behind (es ++ fs) o ≡ behind es (behind fs o)
   behind_twice es fs o =
-      ap (λ (l : List A). record { block = o.block; after = record { us = o.after.us; next = o.after.next; eqs = l } })
-      (append_assoc es fs o.after.eqs)
+      ap (λ (l : List A). record { block = o.block; after = record { us = o.after.us; next = o.after.next; eqs = l } }) (append_assoc es fs o.after.eqs)
 
   -- the right half, behind a left half that is behind es
   second : (n : ℕ) → Behind n → (a b : List (Option A)) (es : List A) (l o : Out A) → l ≡ behind es o
-      → join_out 𝓥 l (decode 𝓥 rule n (right_syms 𝓥 a b l.block) l.after)
-      ≡ behind es (join_out 𝓥 o (decode 𝓥 rule n (right_syms 𝓥 a b o.block) o.after))
+      → join_out 𝓥 l (decode 𝓥 rule n (right_syms 𝓥 a b l.block) l.after) ≡ behind es (join_out 𝓥 o (decode 𝓥 rule n (right_syms 𝓥 a b o.block) o.after))
   second n ih a b es l o e =
       let r : List (Option A) = right_syms 𝓥 a b o.block in
       let clean : Out A = decode 𝓥 rule n r (record { us = o.after.us; next = o.after.next; eqs = [] }) in
@@ -75,8 +72,7 @@ module _ {A : Type 0} (𝓥 : Values A) (rule : ℕ → Rule) where
       second n (decode-behind n) a b es (l es) (l []) (decode-behind n (left_syms 𝓥 a b) us k es)
 
 -- a block of 2 ^ n symbols has at most so many equations
-pub decode-most : {A : Type 0} (𝓥 : Values A) (rule : ℕ → Rule) (n : ℕ) (w : List (Option A)) (s : Walk A)
-    → length (decode 𝓥 rule n w s).after.eqs ≤ length s.eqs + 2 ^ n
+pub decode-most : {A : Type 0} (𝓥 : Values A) (rule : ℕ → Rule) (n : ℕ) (w : List (Option A)) (s : Walk A) → length (decode 𝓥 rule n w s).after.eqs ≤ length s.eqs + 2 ^ n
 unfolding decode
 decode-most 𝓥 rule zero [] s = omega arith
 decode-most {A = A} 𝓥 rule zero (x ∷ w) s = omega (arith, length-append s.eqs (eqs_at 𝓥 (rule (length s.us)) x s.us), one (rule (length s.us)) x)
@@ -153,8 +149,7 @@ module _ {A : Type 0} (𝓥 : Values A) (rule : ℕ → Rule) where
       let b = decode_bound lim 𝓥 (bits unset) (any_bound lim 𝓥 unset) rule n (any-syms w) {s = s} {t = s'}
       (record { us = any_along s.us; next = refl; eqs = any_along s.eqs }) (omega arith) in
       let (v, f) = found unset rule n w' (length-map w shade ∙ lw) s' in
-      tally n w lw s (decode 𝓥 rule n w s) s' (decode (bits unset) rule n w' s')
-      (length-replicate (length s.us) false) (length-replicate (length s.eqs) false) refl b v f
+      tally n w lw s (decode 𝓥 rule n w s) s' (decode (bits unset) rule n w' s') (length-replicate (length s.us) false) (length-replicate (length s.eqs) false) refl b v f
 
   -- ---- the check
 

@@ -1,5 +1,5 @@
--- What the walk along the positions reads: it agrees with the symbols, gives each open free position the next unknown,
--- keeps the rule of each open frozen position, and leaves one equation for each closed frozen one: its bit plus what its rule asks for.
+-- What the walk along the positions reads: it agrees with the symbols, gives each open free position the next unknown, keeps the rule of each open frozen position,
+-- and leaves one equation for each closed frozen one: its bit plus what its rule asks for.
 --     rules-split                                the rules are kept: at the open positions, and with no residual at the closed ones
 --     walk_next, walk_many                       how many unknowns and equations there are
 --     reads_agrees, reads_given, reads_kept      what is read
@@ -77,8 +77,7 @@ module _ (t : ℕ → Bool) where
   walk_next (frozen c m ∷ ks) (some a ∷ xs) s = omega (arith, walk_next ks xs (step_at (bits t) (frozen c m) (some a) s))
 
   -- the equations left
-  pub walk_many : (ks : List Rule) (xs : List (Option Bool)) (s : Walk Bool)
-      → length (walk t ks xs s).eqs ≡ length s.eqs + ones (closed_frozen ks (map lost xs))
+  pub walk_many : (ks : List Rule) (xs : List (Option Bool)) (s : Walk Bool) → length (walk t ks xs s).eqs ≡ length s.eqs + ones (closed_frozen ks (map lost xs))
   walk_many [] xs s = sym (add-zero (length s.eqs))
   walk_many (k ∷ ks) [] s = sym (add-zero (length s.eqs))
   walk_many (free ∷ ks) (none ∷ xs) s = omega (arith, walk_many ks xs (step_at (bits t) free none s), length-append s.eqs [])
@@ -106,8 +105,7 @@ module _ (t : ℕ → Bool) where
       let m = ones (open_free ks (map lost xs)) in
       rw (one-add m)
       (ap₂ {C = List Bool} ◌∷◌ (ap t (omega arith))
-      (reads_given ks xs (step_at (bits t) free none s)
-      ∙ tab_ext m (λ (j : ℕ). t (suc s.next + j)) (λ (j : ℕ). t (s.next + suc j)) (λ j. ap t (omega arith))))
+      (reads_given ks xs (step_at (bits t) free none s) ∙ tab_ext m (λ (j : ℕ). t (suc s.next + j)) (λ (j : ℕ). t (s.next + suc j)) (λ j. ap t (omega arith))))
   reads_given (free ∷ ks) (some a ∷ xs) s = rw zero-add (reads_given ks xs (step_at (bits t) free (some a) s))
   reads_given (frozen c m ∷ ks) (none ∷ xs) s = rw zero-add (reads_given ks xs (step_at (bits t) (frozen c m) none s))
   reads_given (frozen c m ∷ ks) (some a ∷ xs) s = rw zero-add (reads_given ks xs (step_at (bits t) (frozen c m) (some a) s))
@@ -116,8 +114,7 @@ module _ (t : ℕ → Bool) where
   abbrev Kept : List Rule → List (Option Bool) → Walk Bool → List Bool → Type 0
   Kept ks xs s u = (kept_open ks (map lost xs) u (reads t ks xs s) ≡ true) × ((walk t ks xs s).eqs ≡ s.eqs ++ residuals ks (map lost xs) u (reads t ks xs s))
 
-  pub reads_kept : (ks : List Rule) (xs : List (Option Bool)) (s : Walk Bool)
-      → early (length s.us) ks ≡ true → (u : List Bool) → u ≡ s.us ++ reads t ks xs s → Kept ks xs s u
+  pub reads_kept : (ks : List Rule) (xs : List (Option Bool)) (s : Walk Bool) → early (length s.us) ks ≡ true → (u : List Bool) → u ≡ s.us ++ reads t ks xs s → Kept ks xs s u
   reads_kept [] xs s h u e = (refl, sym (append-nil s.eqs))
   reads_kept (k ∷ ks) [] s h u e = (refl, sym (append-nil s.eqs))
   reads_kept (free ∷ ks) (none ∷ xs) s h u e =
@@ -141,6 +138,5 @@ module _ (t : ℕ → Bool) where
       let s' = step_at (bits t) (frozen c m) (some a) s in
       let z = and_l (zeros (drop (length s.us) m)) _ h in
       let (p, q) = reads_kept ks xs s' (early-next s.us a ks (and_r (zeros (drop (length s.us) m)) _ h)) u (onward s.us (reads t ks xs s') u a e) in
-      let f : a ⊕ rule_value (bits t) c m s.us ≡ a ⊕ (c ⊕ odd m u) =
-      ap (λ (x : Bool). a ⊕ x) (rule_bit t c m s.us ∙ rule_here c m s.us (a ∷ reads t ks xs s') u e z) in
+      let f : a ⊕ rule_value (bits t) c m s.us ≡ a ⊕ (c ⊕ odd m u) = ap (λ (x : Bool). a ⊕ x) (rule_bit t c m s.us ∙ rule_here c m s.us (a ∷ reads t ks xs s') u e z) in
       (p, add s.eqs (residuals ks (map lost xs) u (reads t ks xs s')) _ _ _ f q)

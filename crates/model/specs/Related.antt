@@ -1,5 +1,5 @@
--- What it is for two runs of the model to be bound by a relation, place by place.
--- A relation says more than a map: it can also carry what the values of one side always keep, as the length of a row.
+-- What it is for two runs of the model to be bound by a relation, place by place. A relation says more than a map: it can also carry what the values of one side
+-- always keep, as the length of a row.
 --     Along, Sym               lists and symbols that a relation binds
 --     Bound lim                two ways to compute that it binds, as far as the first lim unknowns go
 --     BoundWalk, BoundOut      what is known on the way, and what a block gives

@@ -1,13 +1,12 @@
 -- Rows of w words as values of the decoder: c words of coefficients, then the constant in bit 0 of word c, then what rides along.
 --     unit_row, unknown_row                1, and unknown k (0 is `noughtRow` of bits)
---     constant c x                       the constant of the row x
 --     row_values c w                      what the decoder computes with
 --     held, placed                       a symbol whose row, where it is known, is at hand; the symbols of a word with the row of symbol j in place j
 --     rows_out, rows_system                the decoder on such symbols; all the equations that it leaves, those of the check behind the others
-use Rattle.std.specs.Prelude.{ℕ, zero, suc, ◌*◌, ◌/◌, ◌%◌, ◌^◌, Bool, List, ◌++◌, length, set, get_or}
+use Rattle.std.specs.Prelude.{ℕ, zero, suc, ◌/◌, ◌%◌, ◌^◌, List, ◌++◌, length, set, get_or}
 use Rattle.std.proofs.Math.Option.{Option, none, some}
 use Rattle.bits.specs.Vectors.{tab}
-use Rattle.bits.specs.Rows.{Row, ◌⊻◌, nought_row, has}
+use Rattle.bits.specs.Rows.{Row, ◌⊻◌, nought_row}
 use Rattle.meaning.specs.Sheet.{Rule}
 use Rattle.model.specs.Model.{Values, Out, start, decode, checks}
 
@@ -18,10 +17,6 @@ unit_row c w = set (nought_row w) c 1
 -- unknown k is bit k mod 64 of word k div 64
 abbrev pub unknown_row : ℕ → ℕ → Row
 unknown_row w k = set (nought_row w) (k / 64) (2 ^ (k % 64))
-
--- bit 0 of word c
-abbrev pub constant : ℕ → Row → Bool
-constant c x = has (64 * c) x
 
 abbrev pub row_values : ℕ → ℕ → Values Row
 row_values c w = record { plus = ◌⊻◌; nought = nought_row w; unit = unit_row c w; unknown = unknown_row w }

@@ -49,16 +49,14 @@ module _ {A : Type 0} where
 -- ---- settled places
 
 -- not all of a list with a member hold 1 if all hold 0
-not-both : (l : List (List Bool)) (j : ℕ) → 0 < length l → all (λ (x : List Bool). not (get_or x j false)) l ≡ true
-    → all (λ (x : List Bool). get_or x j false) l ≡ false
+not-both : (l : List (List Bool)) (j : ℕ) → 0 < length l → all (λ (x : List Bool). not (get_or x j false)) l ≡ true → all (λ (x : List Bool). get_or x j false) l ≡ false
 not-both [] j h k = absurd (omega arith)
 not-both (x ∷ l) j h k = rw (not-true (get_or x j false) (and_l (not (get_or x j false)) _ k))
 
 sub-settled : (l m : List (List Bool)) → Sublistᴰ l m → 0 < length l → (j : ℕ) → (settled_at m j ≡ 2 → ⊥) → settled_at l j ≡ settled_at m j
 sub-settled l m s h j k = go (all (λ (x : List Bool). get_or x j false) m) (all (λ (x : List Bool). not (get_or x j false)) m) refl refl k
   where
-    go : (a b : Bool) → all (λ (x : List Bool). get_or x j false) m ≡ a
-        → all (λ (x : List Bool). not (get_or x j false)) m ≡ b → (common a b ≡ 2 → ⊥) → settled_at l j ≡ common a b
+    go : (a b : Bool) → all (λ (x : List Bool). get_or x j false) m ≡ a → all (λ (x : List Bool). not (get_or x j false)) m ≡ b → (common a b ≡ 2 → ⊥) → settled_at l j ≡ common a b
     go true b p q k = rw (sub-all (λ (x : List Bool). get_or x j false) s p)
     go false true p q k =
         let z = sub-all (λ (x : List Bool). not (get_or x j false)) s q in
@@ -75,8 +73,7 @@ parted l j {x} {y} mx my p q = go (all (λ (x : List Bool). get_or x j false) l)
     go false false e f = refl
 
 -- what was read there, v, fits the one and not the other
-apart : (l : List (List Bool)) (j v : ℕ) → v < 2 → {x y : List Bool} → Memᴰ x l → Memᴰ y l
-    → fits v (get_or x j false) ≡ false → fits v (get_or y j false) ≡ true → settled_at l j ≡ 2
+apart : (l : List (List Bool)) (j v : ℕ) → v < 2 → {x y : List Bool} → Memᴰ x l → Memᴰ y l → fits v (get_or x j false) ≡ false → fits v (get_or y j false) ≡ true → settled_at l j ≡ 2
 apart l j zero h mx my p q = parted l j mx my (not-false _ p) (not-true _ q)
 apart l j (suc zero) h mx my p q = parted l j my mx q p
 apart l j (suc (suc v)) h mx my p q = absurd (omega arith)
@@ -85,15 +82,13 @@ apart l j (suc (suc v)) h mx my p q = absurd (omega arith)
 settled_in_lem : (l : List (List Bool)) (j : ℕ) {x : List Bool} → Memᴰ x l → (v : ℕ) → v < 2 → v ≡ settled_at l j → fits v (get_or x j false) ≡ true
 settled_in_lem l j {x} m v h e = go (all (λ (x : List Bool). get_or x j false) l) (all (λ (x : List Bool). not (get_or x j false)) l) refl refl e
   where
-    go : (a b : Bool) → all (λ (x : List Bool). get_or x j false) l ≡ a
-        → all (λ (x : List Bool). not (get_or x j false)) l ≡ b → v ≡ common a b → fits v (get_or x j false) ≡ true
+    go : (a b : Bool) → all (λ (x : List Bool). get_or x j false) l ≡ a → all (λ (x : List Bool). not (get_or x j false)) l ≡ b → v ≡ common a b → fits v (get_or x j false) ≡ true
     go true b p q k = rw k (all_mem (λ (x : List Bool). get_or x j false) m p)
     go false true p q k = rw k (all_mem (λ (x : List Bool). not (get_or x j false)) m q)
     go false false p q k = absurd (omega arith)
 
 -- a value that fits one of them is that of a settled place
-fitting : (l : List (List Bool)) (j v : ℕ) → v < 2 → (settled_at l j ≡ 2 → ⊥)
-    → {x : List Bool} → Memᴰ x l → fits v (get_or x j false) ≡ true → v ≡ settled_at l j
+fitting : (l : List (List Bool)) (j v : ℕ) → v < 2 → (settled_at l j ≡ 2 → ⊥) → {x : List Bool} → Memᴰ x l → fits v (get_or x j false) ≡ true → v ≡ settled_at l j
 fitting l j v h u {x} m e = go (all (λ (x : List Bool). get_or x j false) l) (all (λ (x : List Bool). not (get_or x j false)) l) refl refl u
   where
     one : (v : ℕ) → v < 2 → get_or x j false ≡ true → fits v (get_or x j false) ≡ true → v ≡ 1
@@ -106,8 +101,7 @@ fitting l j v h u {x} m e = go (all (λ (x : List Bool). get_or x j false) l) (a
     none (suc zero) h p e = absurd (false≢true (sym p ∙ e))
     none (suc (suc v)) h p e = absurd (omega arith)
 
-    go : (a b : Bool) → all (λ (x : List Bool). get_or x j false) l ≡ a
-        → all (λ (x : List Bool). not (get_or x j false)) l ≡ b → (common a b ≡ 2 → ⊥) → v ≡ common a b
+    go : (a b : Bool) → all (λ (x : List Bool). get_or x j false) l ≡ a → all (λ (x : List Bool). not (get_or x j false)) l ≡ b → (common a b ≡ 2 → ⊥) → v ≡ common a b
     go true b p q k = one v h (all_mem (λ (x : List Bool). get_or x j false) m p) e
     go false true p q k = none v h (not-true _ (all_mem (λ (x : List Bool). not (get_or x j false)) m q)) e
     go false false p q k = absurd (k refl)
@@ -154,8 +148,7 @@ module _ (n : ℕ) (ks : List Rule) (r : ℕ) (w w' : List ℕ) (f : filled_in w
             let (z, mz) = head_in cs' h in
             let (j, lj, p, q, cx) = contrary w w' f x (long x mx) ((candidate_iff n ks r w x).0 mx).1 ax in
             let mz' : Memᴰ z cs = sub_mem among mz in
-            let cz : fits (get_or w' j 0) (get_or z j false) ≡ true =
-            agrees_at w' z ((candidate_iff n ks r w' z).0 mz).1 j (omega (arith, filled-long w w' f)) (omega (arith, long z mz')) in
+            let cz : fits (get_or w' j 0) (get_or z j false) ≡ true = agrees_at w' z ((candidate_iff n ks r w' z).0 mz).1 j (omega (arith, filled-long w w' f)) (omega (arith, long z mz')) in
             (j, omega arith, p, q, apart cs j (get_or w' j 0) q mx mz' cx cz)
 
     -- what was read at a settled place is its value, or none agrees
@@ -163,8 +156,7 @@ module _ (n : ℕ) (ks : List Rule) (r : ℕ) (w w' : List ℕ) (f : filled_in w
     as_settled j k u h p =
         let (z, mz) = head_in cs' p in
         let mz' : Memᴰ z cs = sub_mem among mz in
-        fitting cs j (get_or w' j 0) h u mz' (agrees_at w' z ((candidate_iff n ks r w' z).0 mz).1 j
-        (omega (arith, filled-long w w' f)) (omega (arith, long z mz')))
+        fitting cs j (get_or w' j 0) h u mz' (agrees_at w' z ((candidate_iff n ks r w' z).0 mz).1 j (omega (arith, filled-long w w' f)) (omega (arith, long z mz')))
 
     pub all_left : ((j : ℕ) → j < 2 ^ n → get_or w j 0 ≡ 2 → get_or w' j 0 < 2 → get_or w' j 0 ≡ settled_at cs j) → cs' ≡ cs
     all_left h = all-agree (λ x m. go x m (agrees w' x) refl)
@@ -213,7 +205,5 @@ module _ (n : ℕ) (ks : List Rule) (r : ℕ) (w w' : List ℕ) (f : filled_in w
   pub narrowed : 0 < length (candidates n ks r w')
       → NotLater n (first (candidates n ks r w)) (first (candidates n ks r w')) × NotLater n (last (candidates n ks r w')) (last (candidates n ks r w))
   narrowed h =
-      let s = among n ks r w w' f in (
-        first-later n _ _ s h (candidates_rise n ks r w') (candidates_rise n ks r w),
-        last_earlier n _ _ s h (candidates_rise n ks r w') (candidates_rise n ks r w),
-      )
+      let s = among n ks r w w' f in
+      (first-later n _ _ s h (candidates_rise n ks r w') (candidates_rise n ks r w), last_earlier n _ _ s h (candidates_rise n ks r w') (candidates_rise n ks r w))

@@ -14,10 +14,10 @@ use Rattle.bits.proofs.Tests.{le_or_lt}
 use Rattle.meaning.specs.Limits.{largest_ceiling}
 use Rattle.meaning.specs.Sheet.{rules}
 use Rattle.meaning.specs.Open.{unknowns}
-use Rattle.meaning.specs.Answers.{Refusal, first_of, refuses, formRefusals, Reply, leaving, deciding, decoding}
+use Rattle.meaning.specs.Answers.{Refusal, first_of, refuses, formRefusals, Reply, leaving, decoding}
 use Rattle.meaning.specs.declared.Answer.TheVariants.{TooMany}
 use Rattle.meaning.proofs.Refusals.{first_refused}
-use Rattle.meaning.proofs.Demands.{by_form, over, under, over_iff}
+use Rattle.meaning.proofs.Demands.{decided, by_form, over, under, over_iff}
 use Rattle.planning.specs.MoreKnown.{code_of, g_of, formed}
 use Rattle.planning.proofs.Known.{numbers, formed-none, g_answered}
 
@@ -32,12 +32,9 @@ module _ (n : ℕ) (s : List ℕ) (r c c' : ℕ) (w out : List ℕ) (up : c ≤ 
   pub lowered : (decoding n s r c w out ≡ decoding n s r c' w out) ⊎ ((decoding n s r c w out ≡ leaving out (TooMany g)) × (c < g))
   lowered = go (refuses (formRefusals n s r c w (length out))) refl
     where
-      go : (b : Bool) → refuses (formRefusals n s r c w (length out)) ≡ b
-          → (decoding n s r c w out ≡ decoding n s r c' w out) ⊎ ((decoding n s r c w out ≡ leaving out (TooMany g)) × (c < g))
+      go : (b : Bool) → refuses (formRefusals n s r c w (length out)) ≡ b → (decoding n s r c w out ≡ decoding n s r c' w out) ⊎ ((decoding n s r c w out ≡ leaving out (TooMany g)) × (c < g))
       go true e =
-          inl (by_form n s r c w out
-          ∙ first_refused (leaving out) (formRefusals n s r c w (length out)) (deciding n s r c w out) (deciding n s r c' w out) e
-          ∙ ap (λ (ts : List Refusal). first_of (leaving out) ts (deciding n s r c' w out)) same_form
+          inl (by_form n s r c w out ∙ first_refused (leaving out) (formRefusals n s r c w (length out)) (decided n s r c w out) (decided n s r c' w out) e ∙ ap (λ (ts : List Refusal). first_of (leaving out) ts (decided n s r c' w out)) same_form
           ∙ sym (by_form n s r c' w out))
       go false e =
           ⊎_elim
@@ -48,8 +45,7 @@ module _ (n : ℕ) (s : List ℕ) (r c c' : ℕ) (w out : List ℕ) (up : c ≤ 
   pub raised : (code_of (numbers (decoding n s r c w out)) ≡ 18 → ⊥) → decoding n s r c' w out ≡ decoding n s r c w out
   raised h = ⊎_elim sym (λ (e, k). absurd (h (ap (λ (t : Reply). code_of (numbers t)) e))) lowered
 
-  pub enough : code_of (numbers (decoding n s r c w out)) ≡ 18 → (code_of (numbers (decoding n s r c' w out)) ≡ 18)
-      ↔ (c' < g_of (numbers (decoding n s r c w out)))
+  pub enough : code_of (numbers (decoding n s r c w out)) ≡ 18 → (code_of (numbers (decoding n s r c' w out)) ≡ 18) ↔ (c' < g_of (numbers (decoding n s r c w out)))
   enough h =
       let ok : formed (numbers (decoding n s r c w out)) ≡ true = rw h in
       rw (g_answered n s r c w out ok) (over_iff n s r c' w out (rw (← same_form) (formed-none n s r c w out ok)))

@@ -1,7 +1,7 @@
 -- The counts g and m of a word w' that is w with some erased symbols filled in.
 --     fewer_open          what w' leaves open, w leaves open
 --     fewer_unknowns      g is no larger
---     more-equations      m is no smaller
+--     more_equations      m is no smaller
 --     balance             of any word, m and the number of erased symbols are N - K + r + g
 --     counts-moved        so m - g rises by as many as were filled in
 --     unknowns_each       and g falls by no more
@@ -50,8 +50,7 @@ fewer_tab (suc n) p' p h = (h zero, fewer_tab n (λ (i : ℕ). p' (suc i)) (λ (
 
 fewer_all : (n : ℕ) (w w' : List ℕ) → filled_in w w' ≡ true → Fewer (open_all n w') (open_all n w)
 unfolding open_all
-fewer_all n w w' f =
-    fewer_tab (2 ^ n) (is_open n (map erased w')) (is_open n (map erased w)) (λ i. fewer_open n (map erased w') (map erased w) i (erased-before w w' f))
+fewer_all n w w' f = fewer_tab (2 ^ n) (is_open n (map erased w')) (is_open n (map erased w)) (λ i. fewer_open n (map erased w') (map erased w) i (erased-before w w' f))
 
 -- ---- g and m
 
@@ -59,10 +58,10 @@ fewer_bit : (a b : Bool) → (a ≡ true → b ≡ true) → bit a ≤ bit b
 fewer_bit true b h = rw (h refl) (omega arith)
 fewer_bit false b h = omega arith
 
-more-bit : (a b : Bool) → (a ≡ true → b ≡ true) → bit (not b) ≤ bit (not a)
-more-bit true b h = rw (h refl) (omega arith)
-more-bit false true h = omega arith
-more-bit false false h = omega arith
+more_bit : (a b : Bool) → (a ≡ true → b ≡ true) → bit (not b) ≤ bit (not a)
+more_bit true b h = rw (h refl) (omega arith)
+more_bit false true h = omega arith
+more_bit false false h = omega arith
 
 fewer_free : (ks : List Rule) (o' o : List Bool) → Fewer o' o → ones (open_free ks o') ≤ ones (open_free ks o)
 fewer_free [] o' o f = omega arith
@@ -71,12 +70,12 @@ fewer_free (k ∷ ks) (b ∷ o') [] f = absurd f
 fewer_free (free ∷ ks) (b' ∷ o') (b ∷ o) f = omega (arith, fewer_bit b' b f.0, fewer_free ks o' o f.1)
 fewer_free (frozen c m ∷ ks) (b' ∷ o') (b ∷ o) f = omega (arith, fewer_free ks o' o f.1)
 
-more-frozen : (ks : List Rule) (o' o : List Bool) → Fewer o' o → ones (closed_frozen ks o) ≤ ones (closed_frozen ks o')
-more-frozen [] o' o f = omega arith
-more-frozen (k ∷ ks) o' [] f = omega arith
-more-frozen (k ∷ ks) [] (b ∷ o) f = absurd f
-more-frozen (free ∷ ks) (b' ∷ o') (b ∷ o) f = omega (arith, more-frozen ks o' o f.1)
-more-frozen (frozen c m ∷ ks) (b' ∷ o') (b ∷ o) f = omega (arith, more-bit b' b f.0, more-frozen ks o' o f.1)
+more_frozen : (ks : List Rule) (o' o : List Bool) → Fewer o' o → ones (closed_frozen ks o) ≤ ones (closed_frozen ks o')
+more_frozen [] o' o f = omega arith
+more_frozen (k ∷ ks) o' [] f = omega arith
+more_frozen (k ∷ ks) [] (b ∷ o) f = absurd f
+more_frozen (free ∷ ks) (b' ∷ o') (b ∷ o) f = omega (arith, more_frozen ks o' o f.1)
+more_frozen (frozen c m ∷ ks) (b' ∷ o') (b ∷ o) f = omega (arith, more_bit b' b f.0, more_frozen ks o' o f.1)
 
 -- the closed frozen positions and the open ones are the frozen positions and the open free ones
 frozen_open : (ks : List Rule) (o : List Bool) → length ks ≡ length o → ones (closed_frozen ks o) + ones o + frees ks ≡ length ks + ones (open_free ks o)
@@ -99,13 +98,12 @@ module _ (n : ℕ) (ks : List Rule) where
     unfolding unknowns
     fewer_unknowns = fewer_free ks (open_all n w') (open_all n w) (fewer_all n w w' f)
 
-    pub more-equations : (r : ℕ) → equations n ks r w ≤ equations n ks r w'
+    pub more_equations : (r : ℕ) → equations n ks r w ≤ equations n ks r w'
     unfolding equations
-    more-equations r = omega (arith, more-frozen ks (open_all n w') (open_all n w) (fewer_all n w w' f))
+    more_equations r = omega (arith, more_frozen ks (open_all n w') (open_all n w) (fewer_all n w w' f))
 
-    pub counts-moved : (r : ℕ) → length ks ≡ 2 ^ n → length w ≡ 2 ^ n
-        → equations n ks r w' + unknowns n ks w ≡ equations n ks r w + unknowns n ks w' + fetched w w'
+    pub counts-moved : (r : ℕ) → length ks ≡ 2 ^ n → length w ≡ 2 ^ n → equations n ks r w' + unknowns n ks w ≡ equations n ks r w + unknowns n ks w' + fetched w w'
     counts-moved r lk lw = omega (arith, balance r w lk lw, balance r w' lk (sym (filled-long w w' f) ∙ lw), erased-fetched w w' f)
 
     pub unknowns_each : length ks ≡ 2 ^ n → length w ≡ 2 ^ n → unknowns n ks w ≤ unknowns n ks w' + fetched w w'
-    unknowns_each lk lw = omega (arith, counts-moved 0 lk lw, more-equations 0)
+    unknowns_each lk lw = omega (arith, counts-moved 0 lk lw, more_equations 0)

@@ -25,8 +25,7 @@ use Rattle.planning.proofs.Among.{fewer}
 
 -- ---- one symbol, behind `pre` and before `t`
 
-bit-split : (pre t : List ℕ) (x : List Bool) → length pre < length x
-    → bit (agrees (pre ++ 2 ∷ t) x) ≡ bit (agrees (pre ++ 0 ∷ t) x) + bit (agrees (pre ++ 1 ∷ t) x)
+bit-split : (pre t : List ℕ) (x : List Bool) → length pre < length x → bit (agrees (pre ++ 2 ∷ t) x) ≡ bit (agrees (pre ++ 0 ∷ t) x) + bit (agrees (pre ++ 1 ∷ t) x)
 bit-split pre t [] h = absurd (omega arith)
 bit-split [] t (true ∷ x) h = omega arith
 bit-split [] t (false ∷ x) h = omega arith
@@ -67,10 +66,8 @@ module _ (n : ℕ) (ks : List Rule) (r : ℕ) where
         same_number n ks r (pre ++ 0 ∷ t) (pre ++ 1 ∷ t) (same-erased pre t) x y mx my
 
     halved : (b : ℕ) → b < 2 → 0 < number (pre ++ b ∷ t) → number (pre ++ 2 ∷ t) ≤ 2 * number (pre ++ b ∷ t)
-    halved zero l p =
-        ⊎_elim (λ (q : number (pre ++ 1 ∷ t) ≤ 0). omega (arith, split)) (λ q. omega (arith, split, equally p q)) (le_or_lt (number (pre ++ 1 ∷ t)) 0)
-    halved (suc zero) l p =
-        ⊎_elim (λ (q : number (pre ++ 0 ∷ t) ≤ 0). omega (arith, split)) (λ q. omega (arith, split, equally q p)) (le_or_lt (number (pre ++ 0 ∷ t)) 0)
+    halved zero l p = ⊎_elim (λ (q : number (pre ++ 1 ∷ t) ≤ 0). omega (arith, split)) (λ q. omega (arith, split, equally p q)) (le_or_lt (number (pre ++ 1 ∷ t)) 0)
+    halved (suc zero) l p = ⊎_elim (λ (q : number (pre ++ 0 ∷ t) ≤ 0). omega (arith, split)) (λ q. omega (arith, split, equally q p)) (le_or_lt (number (pre ++ 0 ∷ t)) 0)
     halved (suc (suc b)) l p = absurd (omega arith)
 
   -- ---- all symbols, from the first on
@@ -85,8 +82,7 @@ module _ (n : ℕ) (ks : List Rule) (r : ℕ) where
       let e : z * 2 ^ suc k ≡ z * 2 ^ k * 2 = ap (λ (t : ℕ). z * t) s ∙ sym (mul_assoc z (2 ^ k) 2) in
       omega arith
 
-  halved_from : (pre w w' : List ℕ) → filled_in w w' ≡ true → length (pre ++ w) ≡ 2 ^ n
-      → 0 < number (pre ++ w') → number (pre ++ w) ≤ number (pre ++ w') * 2 ^ fetched w w'
+  halved_from : (pre w w' : List ℕ) → filled_in w w' ≡ true → length (pre ++ w) ≡ 2 ^ n → 0 < number (pre ++ w') → number (pre ++ w) ≤ number (pre ++ w') * 2 ^ fetched w w'
   halved_from pre [] [] f l h = omega arith
   halved_from pre [] (b ∷ w') f l h = absurd (false≢true f)
   halved_from pre (a ∷ w) [] f l h = absurd (false≢true f)
@@ -96,16 +92,9 @@ module _ (n : ℕ) (ks : List Rule) (r : ℕ) where
       go (filled_is a b (and_l (filled a b) _ f)) (rw (e w, e w') at (halved_from (pre ++ (b ∷ [])) w w' (and_r (filled a b) _ f) long (rw (e w') h)))
     where
       some : 0 < number (pre ++ b ∷ w)
-      some =
-          omega (
-            arith,
-            h,
-            fewer n ks r (pre ++ b ∷ w) (pre ++ b ∷ w')
-                (filled-behind pre (b ∷ w) (b ∷ w') (and_i _ _ (filled_self b) (and_r (filled a b) _ f))),
-          )
+      some = omega (arith, h, fewer n ks r (pre ++ b ∷ w) (pre ++ b ∷ w') (filled-behind pre (b ∷ w) (b ∷ w') (and_i _ _ (filled_self b) (and_r (filled a b) _ f))))
 
-      go : (a ≡ b) ⊎ ((a ≡ 2) × (b < 2)) → number (pre ++ b ∷ w) ≤ number (pre ++ b ∷ w') * 2 ^ fetched w w'
-          → number (pre ++ a ∷ w) ≤ number (pre ++ b ∷ w') * 2 ^ (bit (not (eqb a b)) + fetched w w')
+      go : (a ≡ b) ⊎ ((a ≡ 2) × (b < 2)) → number (pre ++ b ∷ w) ≤ number (pre ++ b ∷ w') * 2 ^ fetched w w' → number (pre ++ a ∷ w) ≤ number (pre ++ b ∷ w') * 2 ^ (bit (not (eqb a b)) + fetched w w')
       go (inl e) k = let z : 0 + fetched w w' ≡ fetched w w' = omega arith in rw (e, eq-eqb b b refl, z) k
       go (inr (e, lb)) k =
           let z : 1 + fetched w w' ≡ suc (fetched w w') = omega arith in

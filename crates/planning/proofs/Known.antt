@@ -2,7 +2,7 @@
 --     formed-none, none-formed     an answer is a refusal for no reason but 18, or none, exactly where no fault of form is found
 --     g_answered      the g of such an answer is the number of unknowns, in 18 too
 --     balanced        under the ceiling its g and m are bound to the number of erased symbols
---     more-known      what the second reply keeps of the first, and what it gains, whatever their buffers
+--     more_known      what the second reply keeps of the first, and what it gains, whatever their buffers
 use mathlib.Core.Path.{◌≡◌, refl, sym, ap, ap₂, ◌∙◌}
 use mathlib.Core.Logic.{◌⊎◌, inl, inr, ⊎_elim}
 use Prim.Native.Nat.{ℕ, zero, suc, ◌+◌, ◌*◌, ◌^◌, ◌≤◌, ◌<◌}
@@ -19,7 +19,7 @@ use Rattle.meaning.specs.Sheet.{Rule, rules, frees}
 use Rattle.meaning.specs.Codewords.{erased, candidates}
 use Rattle.meaning.specs.Open.{unknowns, equations}
 use Rattle.meaning.specs.Strips.{settled_at, first, last, strips, dimension, log2}
-use Rattle.meaning.specs.Answers.{numbersOf, refuses, sheetRefusals, wordRefusals, formRefusals, Reply, leaving, verdict, deciding, decoding}
+use Rattle.meaning.specs.Answers.{numbersOf, refuses, sheetRefusals, wordRefusals, formRefusals, Reply, leaving, verdict, decoding}
 use Rattle.meaning.specs.declared.Answer.{Answer}
 use Rattle.meaning.specs.declared.Answer.TheVariants.{TooMany}
 use Rattle.meaning.proofs.Refusals.{refused_is}
@@ -27,13 +27,12 @@ use Rattle.meaning.proofs.Forms.{form_parts}
 use Rattle.meaning.proofs.Sound.{length-rules}
 use Rattle.meaning.proofs.Strips.{candidate_long, strips-whole, strips-first, strips-last}
 use Rattle.meaning.proofs.Dimension.{dimension-is}
-use Rattle.meaning.proofs.Demands.{at, code_by, d_by, verdict_numbers, verdict_shown, verdict-settled, code_one}
-use Rattle.meaning.proofs.Demands.{code-none, code-more, code-small, code-not_18, by_form, over, under}
+use Rattle.meaning.proofs.Demands.{at, code_by, d_by, verdict_numbers, verdict_shown, verdict-settled, code_one, code-none, code_more, code-small, code-not_18, decided, by_form, over, under}
 use Rattle.planning.specs.Filled.{filled_in, fetched}
 use Rattle.planning.specs.MoreKnown.{code_of, g_of, m_of, d_of, formed, strip, OpenFetched, MoreKnown}
 use Rattle.planning.proofs.Among.{sub-length, among, fewer, settled-kept, narrowed, fewer_by_fetching, as_settled, all_left}
 use Rattle.planning.proofs.Halving.{halved_all}
-use Rattle.planning.proofs.Counts.{balance, fewer_unknowns, more-equations, counts-moved, unknowns_each}
+use Rattle.planning.proofs.Counts.{balance, fewer_unknowns, more_equations, counts-moved, unknowns_each}
 
 abbrev pub numbers : Reply → List ℕ
 numbers t = numbersOf t.answer
@@ -57,7 +56,7 @@ module _ (n : ℕ) (s : List ℕ) (r c : ℕ) (w out : List ℕ) where
   unfolding formRefusals sheetRefusals wordRefusals
   refused_form h =
       let p : Answer → Bool = λ a. not (formed (numbersOf a)) in
-      ap (λ (t : Reply). p t.answer) (by_form n s r c w out) ∙ refused_is p out (formRefusals n s r c w (length out)) (deciding n s r c w out) refl h
+      ap (λ (t : Reply). p t.answer) (by_form n s r c w out) ∙ refused_is p out (formRefusals n s r c w (length out)) (decided n s r c w out) refl h
 
   -- and the other way round
   pub none-formed : refuses (formRefusals n s r c w (length out)) ≡ false → formed (numbers reply) ≡ true
@@ -147,8 +146,7 @@ module _ (n : ℕ) (ks : List Rule) (r : ℕ) (w : List ℕ) (g m : ℕ) (out : 
 
   module _ (h : 0 < length found) where
     whole_told : take (3 * 2 ^ n) told.bytes ≡ strips n found
-    whole_told =
-        ap (take (3 * 2 ^ n)) (verdict_shown n g m out found h) ∙ strips-whole n found h (candidate_long n ks r w) (drop (length (strips n found)) out)
+    whole_told = ap (take (3 * 2 ^ n)) (verdict_shown n g m out found h) ∙ strips-whole n found h (candidate_long n ks r w) (drop (length (strips n found)) out)
 
     first_told : strip n 1 told.bytes ≡ first found
     first_told =
@@ -207,8 +205,7 @@ module _ (n : ℕ) (ks : List Rule) (r : ℕ) (w w' : List ℕ) (f : filled_in w
       (j, l, p, q, settled_told n ks r w g₁ m₁ out (omega arith) j l ∙ z)
 
   -- the same list, the same code, d and strips
-  same_told : cs₂ ≡ cs₁ → 0 < length cs₁ → (code_of (numbers t₂) ≡ code_of (numbers t₁))
-      × (d_of (numbers t₂) ≡ d_of (numbers t₁)) × (take (3 * 2 ^ n) t₂.bytes ≡ take (3 * 2 ^ n) t₁.bytes)
+  same_told : cs₂ ≡ cs₁ → 0 < length cs₁ → (code_of (numbers t₂) ≡ code_of (numbers t₁)) × (d_of (numbers t₂) ≡ d_of (numbers t₁)) × (take (3 * 2 ^ n) t₂.bytes ≡ take (3 * 2 ^ n) t₁.bytes)
   same_told e h = (
     code_told n ks r w' g₂ m₂ out' ∙ ap (λ (l : List (List Bool)). code_by (length l)) e ∙ sym (code_told n ks r w g₁ m₁ out),
     d_told n ks r w' g₂ m₂ out' ∙ ap (λ (l : List (List Bool)). d_by (length l)) e ∙ sym (d_told n ks r w g₁ m₁ out),
@@ -224,7 +221,7 @@ module _ (n : ℕ) (ks : List Rule) (r : ℕ) (w w' : List ℕ) (f : filled_in w
         stays_under = λ h p. code-not_18 (length cs₂) (sym (at 0 a₂) ∙ p);
         unknowns = rw (at 2 a₁, at 2 a₂) (fewer_unknowns n ks w w' f);
         unknowns_each = rw (at 2 a₁, at 2 a₂) (unknowns_each n ks w w' f lk lw);
-        equations = λ h. (rw (at 3 a₁, at 3 a₂) (more-equations n ks w w' f r), rw (at 3 a₂, at 2 a₁, at 3 a₁, at 2 a₂) (counts-moved n ks w w' f r lk lw));
+        equations = λ h. (rw (at 3 a₁, at 3 a₂) (more_equations n ks w w' f r), rw (at 3 a₂, at 2 a₁, at 3 a₁, at 2 a₂) (counts-moved n ks w w' f r lk lw));
         stays_inconsistent = λ p.
             let e : length cs₂ ≡ 0 = omega (arith, code-none (length cs₁) (sym (at 0 a₁) ∙ p)) in
             at 0 a₂ ∙ ap code_by e;
@@ -235,12 +232,7 @@ module _ (n : ℕ) (ks : List Rule) (r : ℕ) (w w' : List ℕ) (f : filled_in w
             let z₂ = settled_told n ks r w' g₂ m₂ out' (some₂ q) j l in
             z₂ ∙ settled-kept n ks r w w' f (some₂ q) j (λ z. h (z₁ ∙ z)) ∙ sym z₁;
         narrows = λ p q.
-            rw (
-              first_told n ks r w g₁ m₁ out (some₁ p),
-              first_told n ks r w' g₂ m₂ out' (some₂ q),
-              last_told n ks r w g₁ m₁ out (some₁ p),
-              last_told n ks r w' g₂ m₂ out' (some₂ q),
-            )
+            rw (first_told n ks r w g₁ m₁ out (some₁ p), first_told n ks r w' g₂ m₂ out' (some₂ q), last_told n ks r w g₁ m₁ out (some₁ p), last_told n ks r w' g₂ m₂ out' (some₂ q))
             (narrowed n ks r w w' f (some₂ q));
         lower_by_fetching = λ p q l.
             open_fetched (some₂ q) (⊎_elim
@@ -251,7 +243,7 @@ module _ (n : ℕ) (ks : List Rule) (r : ℕ) (w w' : List ℕ) (f : filled_in w
             (le_or_lt (length cs₁) (length cs₂)));
         unique_by_fetching = λ p q.
             let one : length cs₂ ≡ 1 = code_one (length cs₂) (sym (at 0 a₂) ∙ q) in
-            open_fetched (omega arith) (omega (arith, one, (code-more (length cs₁) (sym (at 0 a₁) ∙ p)).0));
+            open_fetched (omega arith) (omega (arith, one, (code_more (length cs₁) (sym (at 0 a₁) ∙ p)).0));
         contradicted = λ p j l h k u.
             let z = settled_told n ks r w g₁ m₁ out (some₁ p) j l in
             ⊎_elim
@@ -299,14 +291,11 @@ module _ (n : ℕ) (s : List ℕ) (r c : ℕ) (w w' : List ℕ) (f : filled_in w
       stays_unique = λ p. absurd (omega arith);
     }
 
-    pub more-known : Known n w w' reply₁ reply₂
-    more-known = go (ltb c k₁) refl
+    pub more_known : Known n w w' reply₁ reply₂
+    more_known = go (ltb c k₁) refl
       where
         go : (b : Bool) → ltb c k₁ ≡ b → Known n w w' reply₁ reply₂
         go true e = rw (over n s r c w out (formed-none n s r c w out ok) (ltb-true c k₁ e)) over_told
         go false e =
-            rw (
-              under n s r c w out (formed-none n s r c w out ok) (ltb-false c k₁ e),
-              under n s r c w' out' (formed-none n s r c w' out' ok') (omega (arith, ltb-false c k₁ e, fewer_unknowns n (rules n s) w w' f)),
-            )
+            rw (under n s r c w out (formed-none n s r c w out ok) (ltb-false c k₁ e), under n s r c w' out' (formed-none n s r c w' out' ok') (omega (arith, ltb-false c k₁ e, fewer_unknowns n (rules n s) w w' f)))
             (both_told n (rules n s) r w w' f (length-rules n s) (word_long n s r c w out ok) out out')

@@ -67,16 +67,14 @@ filled_at (a ∷ w) [] f j = absurd (false≢true f)
 filled_at (a ∷ w) (b ∷ w') f zero = filled_is a b (and_l (filled a b) _ f)
 filled_at (a ∷ w) (b ∷ w') f (suc j) = filled_at w w' (and_r (filled a b) _ f) j
 
-at-filled : (w w' : List ℕ) → length w ≡ length w' → ((j : ℕ) → j < length w → (get_or w j 0 ≡ get_or w' j 0) ⊎ ((get_or w j 0 ≡ 2) × (get_or w' j 0 < 2)))
-    → filled_in w w' ≡ true
+at-filled : (w w' : List ℕ) → length w ≡ length w' → ((j : ℕ) → j < length w → (get_or w j 0 ≡ get_or w' j 0) ⊎ ((get_or w j 0 ≡ 2) × (get_or w' j 0 < 2))) → filled_in w w' ≡ true
 at-filled [] [] l h = refl
 at-filled [] (b ∷ w') l h = absurd (omega arith)
 at-filled (a ∷ w) [] l h = absurd (omega arith)
 at-filled (a ∷ w) (b ∷ w') l h = and_i _ _ (is-filled a b (h zero (omega arith))) (at-filled w w' (omega arith) (λ j k. h (suc j) (omega arith)))
 
 -- the definition, place by place
-pub filled_iff : (w w' : List ℕ) → (filled_in w w' ≡ true)
-    ↔ ((length w ≡ length w') × ((j : ℕ) → j < length w → (get_or w j 0 ≡ get_or w' j 0) ⊎ ((get_or w j 0 ≡ 2) × (get_or w' j 0 < 2))))
+pub filled_iff : (w w' : List ℕ) → (filled_in w w' ≡ true) ↔ ((length w ≡ length w') × ((j : ℕ) → j < length w → (get_or w j 0 ≡ get_or w' j 0) ⊎ ((get_or w j 0 ≡ 2) × (get_or w' j 0 < 2))))
 filled_iff w w' = (λ f. (filled-long w w' f, λ j l. filled_at w w' f j), λ (l, h). at-filled w w' l h)
 
 -- ---- what agrees
@@ -85,8 +83,7 @@ pub agrees-before : (w w' : List ℕ) → filled_in w w' ≡ true → (x : List 
 agrees-before [] w' f x h = refl
 agrees-before (a ∷ w) [] f x h = absurd (false≢true f)
 agrees-before (a ∷ w) (b ∷ w') f [] h = refl
-agrees-before (a ∷ w) (b ∷ w') f (c ∷ x) h =
-    and_i _ _ (one (filled_is a b (and_l (filled a b) _ f))) (agrees-before w w' (and_r (filled a b) _ f) x (and_r (fits b c) _ h))
+agrees-before (a ∷ w) (b ∷ w') f (c ∷ x) h = and_i _ _ (one (filled_is a b (and_l (filled a b) _ f))) (agrees-before w w' (and_r (filled a b) _ f) x (and_r (fits b c) _ h))
   where
     one : (a ≡ b) ⊎ ((a ≡ 2) × (b < 2)) → fits a c ≡ true
     one (inl e) = rw e (and_l (fits b c) _ h)

@@ -51,12 +51,8 @@ module _ (l₀ : List ℕ) (h : ℕ) (two : length l₀ ≡ h + h) where
       let v = bit_xor (get_or l i 0) (get_or l (h + i) 0) in
       let a : i < length (take h l) = simp length-take (omega arith) in
       let b : i < length (drop h l₀) = simp length-drop (omega arith) in
-      let w : v ≡ bit_xor (get_or (take h l) i 0) (get_or (drop h l₀) i 0) =
-      ap₂ bit_xor (sym (get_or-take h l i 0 lt)) (sym (get_or-drop h l i 0) ∙ ap (λ (r : List ℕ). get_or r i 0) d) in (
-        length-set l i v ∙ e,
-        drop-set-lt h l i v lt ∙ d,
-        ap (λ (r : List ℕ). togo r (drop h l₀) (i + 1)) (take-set-lt h l i v lt ∙ ap (set (take h l) i) w) ∙ xor_step (take h l) (drop h l₀) i a b ∙ t,
-      )
+      let w : v ≡ bit_xor (get_or (take h l) i 0) (get_or (drop h l₀) i 0) = ap₂ bit_xor (sym (get_or-take h l i 0 lt)) (sym (get_or-drop h l i 0) ∙ ap (λ (r : List ℕ). get_or r i 0) d) in
+      (length-set l i v ∙ e, drop-set-lt h l i v lt ∙ d, ap (λ (r : List ℕ). togo r (drop h l₀) (i + 1)) (take-set-lt h l i v lt ∙ ap (set (take h l) i) w) ∙ xor_step (take h l) (drop h l₀) i a b ∙ t)
 
   pub fold_end : (l : List ℕ) (i : ℕ) → h ≤ i → Folded l₀ h l i → l ≡ folded h l₀
   unfolding folded
@@ -82,8 +78,7 @@ module _ (l a : List ℕ) (h : ℕ) (la : length a ≡ h) (le : h ≤ length l) 
       rw (take_at a (drop h l) h la, drop_at a (drop h l) h la, drop_of_length-le (drop h l) q, append-nil)
 
 bytes-suc : (n : ℕ) → 0 < n → (l : List ℕ)
-    → polar_bytes n l ≡ xor_bytes (polar_bytes (n - 1) (take (2 ^ (n - 1)) l)) (polar_bytes (n - 1) (drop (2 ^ (n - 1)) l))
-    ++ polar_bytes (n - 1) (drop (2 ^ (n - 1)) l)
+    → polar_bytes n l ≡ xor_bytes (polar_bytes (n - 1) (take (2 ^ (n - 1)) l)) (polar_bytes (n - 1) (drop (2 ^ (n - 1)) l)) ++ polar_bytes (n - 1) (drop (2 ^ (n - 1)) l)
 unfolding polar_bytes
 bytes-suc zero p l = absurd (omega arith)
 bytes-suc (suc m) p l =
@@ -118,15 +113,7 @@ polar-bytes = halves (λ n u. polar_bytes n (map bit u) ≡ map bit (polar n u))
     let v = polar n a in
     let w = polar n b in
     let ma : length (map bit a) ≡ 2 ^ n = length-map a bit ∙ la in
-    rw (
-      map-append bit a b,
-      take_at (map bit a) (map bit b) (2 ^ n) ma,
-      drop_at (map bit a) (map bit b) (2 ^ n) ma,
-      ia,
-      ib,
-      xor_bits v w (length-polar n a la ∙ sym (length-polar n b lb)),
-      ← map-append bit (v ⊞ w) w,
-    )
+    rw (map-append bit a b, take_at (map bit a) (map bit b) (2 ^ n) ma, drop_at (map bit a) (map bit b) (2 ^ n) ma, ia, ib, xor_bits v w (length-polar n a la ∙ sym (length-polar n b lb)), ← map-append bit (v ⊞ w) w)
     (ap (map bit) (sym (polar_append n a b la))))
 
 -- ---- any length

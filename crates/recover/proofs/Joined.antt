@@ -27,14 +27,11 @@ module _ {s ch : List ℕ} where
   sent_is : (r : Run s ch) → sent r ≡ flatten (records s ch r.words)
   sent_is r = ap (take r.bytes) r.fill.filled ∙ take_at (flatten (records s ch r.words)) _ r.bytes (sym r.fill.bytes)
 
-  all-sent : (runs : List (Run s ch)) → flatten (map sent runs)
-      ≡ flatten (map (λ (w : List ℕ). flatten (records s ch w)) (map (λ (r : Run s ch). r.words) runs))
+  all_sent : (runs : List (Run s ch)) → flatten (map sent runs) ≡ flatten (map (λ (w : List ℕ). flatten (records s ch w)) (map (λ (r : Run s ch). r.words) runs))
   unfolding flatten
-  all-sent [] = refl
-  all-sent (r ∷ runs) = ap₂ {C = List ℕ} ◌++◌ (sent_is r) (all-sent runs)
+  all_sent [] = refl
+  all_sent (r ∷ runs) = ap₂ {C = List ℕ} ◌++◌ (sent_is r) (all_sent runs)
 
-  pub runs_joined : n_of s ≤ largest_n → length ch ≡ 2 → (runs : List (Run s ch)) (last : Run s ch)
-      → WholeWords (2 ^ n_of s) (map (λ (r : Run s ch). r.words) runs)
+  pub runs_joined : n_of s ≤ largest_n → length ch ≡ 2 → (runs : List (Run s ch)) (last : Run s ch) → WholeWords (2 ^ n_of s) (map (λ (r : Run s ch). r.words) runs)
       → flatten (map sent runs) ++ sent last ≡ flatten (records s ch (flatten (map (λ (r : Run s ch). r.words) runs) ++ last.words))
-  runs_joined h two runs last w =
-      ap₂ {C = List ℕ} ◌++◌ (all-sent runs) (sent_is last) ∙ sym (cut_bytes s ch h two (map (λ (r : Run s ch). r.words) runs) last.words w)
+  runs_joined h two runs last w = ap₂ {C = List ℕ} ◌++◌ (all_sent runs) (sent_is last) ∙ sym (cut_bytes s ch h two (map (λ (r : Run s ch). r.words) runs) last.words w)

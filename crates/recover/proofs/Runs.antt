@@ -15,10 +15,9 @@ use Rattle.meaning.proofs.Cutting.{rounded_few}
 use Rattle.stream.proofs.Streaming.{records-wide}
 use Rattle.stream.proofs.Promise.{room-written}
 use Rattle.stream.proofs.Counting.{counted}
-use Rattle.recover.specs.Runs.{run_words, RunFits, Filled}
+use Rattle.recover.specs.Runs.{run_words, Ready, Filled}
 
-pub run_room : (s ch : List ℕ) (run room : ℕ) → RunFits s ch run room → (input : List ℕ)
-    → length input ≤ run → length (records s ch input) * answer_bytes ≤ room
+pub run_room : (s ch : List ℕ) (run room : ℕ) → Ready s ch run room → (input : List ℕ) → length input ≤ run → length (records s ch input) * answer_bytes ≤ room
 run_room s ch run room ok input h =
     let N : ℕ = 2 ^ n_of s in
     let e : rounded_up (length input) N ≡ length (records s ch input) = counted s ch input (n_of s) refl ok.small ok.two N refl _ refl in
@@ -26,16 +25,16 @@ run_room s ch run room ok input h =
     le_trans (mul-le-mul_right answer_bytes (le_trans (le_of_eq (sym e)) l)) ok.roomy
 
 -- a run has room for one record
-pub one-room : (room : ℕ) → room ≡ run_words * answer_bytes → answer_bytes ≤ room
+pub one_room : (room : ℕ) → room ≡ run_words * answer_bytes → answer_bytes ≤ room
 unfolding run_words
-one-room room e = omega arith
+one_room room e = omega arith
 
-pub one-fits : (s ch : List ℕ) (room : ℕ) → length (records s ch []) ≡ 1 → answer_bytes ≤ room → length (records s ch []) * answer_bytes ≤ room
-one-fits s ch room e l = rw e (omega arith)
+pub one_fits : (s ch : List ℕ) (room : ℕ) → length (records s ch []) ≡ 1 → answer_bytes ≤ room → length (records s ch []) * answer_bytes ≤ room
+one_fits s ch room e l = rw e (omega arith)
 
 module _ (s ch input : List ℕ) (n : ℕ) (e : n ≡ n_of s) where
-  pub run_fits : n ≤ largest_n → length ch ≡ 2 → (run : ℕ) → run ≡ run_words * 2 ^ n → RunFits s ch run (run_words * answer_bytes)
-  run_fits h q run er = record { small = rw (← e) h; two = q; words = er ∙ ap (λ (k : ℕ). run_words * 2 ^ k) e; roomy = omega arith }
+  pub ready : n ≤ largest_n → length ch ≡ 2 → (run : ℕ) → run ≡ run_words * 2 ^ n → Ready s ch run (run_words * answer_bytes)
+  ready h q run er = record { small = rw (← e) h; two = q; words = er ∙ ap (λ (k : ℕ). run_words * 2 ^ k) e; roomy = omega arith }
 
 -- the words of a run, as the code has them
 pub run_is : (n : ℕ) → n ≤ largest_n → (run_words * 2 ^ n % 2 ^ 64 ≡ run_words * 2 ^ n) × (run_words * 2 ^ n ≤ run_words * 2 ^ largest_n)
@@ -43,8 +42,8 @@ unfolding largest_n run_words
 run_is n h = let l = pow_mono {i = n} {j = largest_n} h in (omega (arith, l), omega (arith, l))
 
 -- the room keeps its size
-pub run-fits-same : (s ch : List ℕ) (run run' room room' : ℕ) → run' ≡ run → room' ≡ room → RunFits s ch run room → RunFits s ch run' room'
-run-fits-same s ch run run' room room' e q ok = rw (e, q) ok
+pub ready_same : (s ch : List ℕ) (run run' room room' : ℕ) → run' ≡ run → room' ≡ room → Ready s ch run room → Ready s ch run' room'
+ready_same s ch run run' room room' e q ok = rw (e, q) ok
 
 -- ---- what is filled in
 
@@ -53,8 +52,7 @@ pub filled_in_lem : (s ch words found out : List ℕ) (a : Answer) (k : ℕ) (le
     → length (records s ch words) * answer_bytes ≤ length found → k ≡ length (records s ch words) → Filled s ch words found out (k * answer_bytes)
 filled_in_lem s ch words found out a k lent same p' l e =
     let p : leaving out a ≡ streaming s ch words found = rw same at p' in
-    let q : k * answer_bytes ≡ length (flatten (records s ch words)) =
-    ap (λ (j : ℕ). j * answer_bytes) e ∙ sym (length-flatten answer_bytes (records s ch words) (records-wide s ch words)) in
+    let q : k * answer_bytes ≡ length (flatten (records s ch words)) = ap (λ (j : ℕ). j * answer_bytes) e ∙ sym (length-flatten answer_bytes (records s ch words) (records-wide s ch words)) in
     record { bytes = q; filled = room-written s ch words found out a p l ∙ ap (λ (j : ℕ). flatten (records s ch words) ++ drop j found) (sym q) }
 
 -- the records lie within the output

@@ -1,7 +1,7 @@
 -- A run of words, and room for their records.
 --     run_words       the words of a run
 --     choice_bytes    the bytes of a choice
---     RunFits        what is known of a sheet, a choice and the room for a run
+--     Ready          what is known of a sheet, a choice and the room for a run
 --     Filled         what is filled into the output, and how many bytes
 use Rattle.std.specs.Prelude.{◌≡◌, ℕ, ◌*◌, ◌^◌, ◌≤◌, length, drop}
 use mathlib.Core.List.{List, ◌++◌, flatten}
@@ -15,7 +15,7 @@ unfoldable pub choice_bytes : ℕ
 choice_bytes = 2
 
 -- the sheet and the choice have a right length, and there is room for the words and the records of a run
-pub record RunFits (s ch : List ℕ) (run room : ℕ) : Type 0 where
+pub record Ready (s ch : List ℕ) (run room : ℕ) : Type 0 where
   pub small : n_of s ≤ largest_n
   pub two : length ch ≡ 2
   pub words : run ≡ run_words * 2 ^ n_of s

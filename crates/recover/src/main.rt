@@ -7,7 +7,7 @@ ghost use Rattle.std.specs.Prelude.{◌≡◌, ◌*◌, ◌^◌, ◌≤◌, [], 
 ghost use Rattle.meaning.specs.Limits.{largest_n};
 ghost use Rattle.meaning.specs.Stream.{answer_bytes, records};
 ghost use Rattle.intake.specs.Turns.{Ends};
-ghost use Rattle.recover.specs.Runs.{run_words, RunFits, Filled};
+ghost use Rattle.recover.specs.Runs.{run_words, Ready, Filled};
 
 mod files;
 
@@ -70,7 +70,7 @@ fn answer(sheet: &[u8], choice: &[u8], input: &[u8], got: usize, out: &mut [u8])
 
 // Reads a run of words, answers it and answers whether to go on. A read that fails ends the input, and is said.
 fn turn(sheet: &[u8], choice: &[u8], input: &mut [u8], out: &mut [u8]) -> bool
-    requires { RunFits sheet.now choice.now (length input.old) (length out.old) }
+    requires { Ready sheet.now choice.now (length input.old) (length out.old) }
 {
     let got = intake::read(STDIN_FILENO, input);
     let written = answer(sheet, choice, input, got.n, out);
@@ -83,7 +83,7 @@ fn turn(sheet: &[u8], choice: &[u8], input: &mut [u8], out: &mut [u8]) -> bool
 // Answers runs until one is the last. They are counted, since a proved loop has to end and nothing says that the input does;
 // no run of the program counts so many.
 fn turns(sheet: &[u8], choice: &[u8], input: &mut [u8], out: &mut [u8]) -> Progress
-    requires { RunFits sheet.now choice.now (length input.old) (length out.old) }
+    requires { Ready sheet.now choice.now (length input.old) (length out.old) }
     ensures { Ends result.made result.more }
 {
     let mut made = 0u64;
@@ -97,7 +97,7 @@ fn turns(sheet: &[u8], choice: &[u8], input: &mut [u8], out: &mut [u8]) -> Progr
 
 // Answers all runs.
 fn run(sheet: &[u8], choice: &[u8], input: &mut [u8], out: &mut [u8])
-    requires { RunFits sheet.now choice.now (length input.old) (length out.old) }
+    requires { Ready sheet.now choice.now (length input.old) (length out.old) }
 {
     let t = turns(sheet, choice, input, out);
     if t.more {
@@ -117,7 +117,7 @@ fn refuse(why: &[u8], sheet: &[u8], choice: &[u8], input: &[u8], out: &mut [u8])
 fn serve(sheet: &[u8], choice: &[u8], input: &mut [u8], out: &mut [u8])
     requires { (length input.old ≡ run_words * 2 ^ largest_n) × (length out.old ≡ run_words * answer_bytes) }
 {
-    let n = sheet::n_of(sheet);
+    let n = stream::n_of(sheet);
     if limits::LARGEST_N < n {
         refuse(
             b"recover: sheet.bin is not 68 N bytes long for an N of 1, 2, 4, .. 512; no word was read\n",

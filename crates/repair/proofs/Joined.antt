@@ -32,27 +32,23 @@ module _ {s ch lost : List ℕ} where
   sent_records r = take r.record_bytes r.records
 
   -- the bytes of its parts and of its records
-  parts-sent : (r : Run s ch lost) → sent_parts r ≡ flatten (parts s ch lost r.strips)
-  parts-sent r = ap (take r.part_bytes) r.fill.parted ∙ take_at (flatten (parts s ch lost r.strips)) _ r.part_bytes (sym r.fill.parts_long)
+  parts_sent : (r : Run s ch lost) → sent_parts r ≡ flatten (parts s ch lost r.strips)
+  parts_sent r = ap (take r.part_bytes) r.fill.parted ∙ take_at (flatten (parts s ch lost r.strips)) _ r.part_bytes (sym r.fill.parts_long)
 
-  records-sent : (r : Run s ch lost) → sent_records r ≡ flatten (headers s ch lost r.strips)
-  records-sent r =
-      ap (take r.record_bytes) r.fill.headed ∙ take_at (flatten (headers s ch lost r.strips)) _ r.record_bytes (sym r.fill.records_long)
+  records_sent : (r : Run s ch lost) → sent_records r ≡ flatten (headers s ch lost r.strips)
+  records_sent r = ap (take r.record_bytes) r.fill.headed ∙ take_at (flatten (headers s ch lost r.strips)) _ r.record_bytes (sym r.fill.records_long)
 
-  all-sent : (sent : Run s ch lost → List ℕ) (g : List ℕ → List (List ℕ)) → ((r : Run s ch lost) → sent r ≡ flatten (g r.strips))
+  all_sent : (sent : Run s ch lost → List ℕ) (g : List ℕ → List (List ℕ)) → ((r : Run s ch lost) → sent r ≡ flatten (g r.strips))
       → (runs : List (Run s ch lost)) → flatten (map sent runs) ≡ flatten (map (λ (w : List ℕ). flatten (g w)) (map (λ (r : Run s ch lost). r.strips) runs))
   unfolding flatten
-  all-sent sent g e [] = refl
-  all-sent sent g e (r ∷ runs) = ap₂ {C = List ℕ} ◌++◌ (e r) (all-sent sent g e runs)
+  all_sent sent g e [] = refl
+  all_sent sent g e (r ∷ runs) = ap₂ {C = List ℕ} ◌++◌ (e r) (all_sent sent g e runs)
 
-  pub runs_joined : n_of s ≤ largest_n → length ch ≡ 2 → (runs : List (Run s ch lost)) (last : Run s ch lost)
-      → WholePieces (strip_bytes (n_of s)) (map (λ (r : Run s ch lost). r.strips) runs)
+  pub runs_joined : n_of s ≤ largest_n → length ch ≡ 2 → (runs : List (Run s ch lost)) (last : Run s ch lost) → WholePieces (strip_bytes (n_of s)) (map (λ (r : Run s ch lost). r.strips) runs)
       → (flatten (map sent_parts runs) ++ sent_parts last ≡ flatten (parts s ch lost (flatten (map (λ (r : Run s ch lost). r.strips) runs) ++ last.strips)))
-      × (flatten (map sent_records runs) ++ sent_records last
-      ≡ flatten (headers s ch lost (flatten (map (λ (r : Run s ch lost). r.strips) runs) ++ last.strips)))
+      × (flatten (map sent_records runs) ++ sent_records last ≡ flatten (headers s ch lost (flatten (map (λ (r : Run s ch lost). r.strips) runs) ++ last.strips)))
   runs_joined h two runs last w =
       let ins : List (List ℕ) = map (λ (r : Run s ch lost). r.strips) runs in (
-        ap₂ {C = List ℕ} ◌++◌ (all-sent sent_parts (parts s ch lost) parts-sent runs) (parts-sent last) ∙ sym (cut_parts s ch lost h two ins last.strips w),
-        ap₂ {C = List ℕ} ◌++◌ (all-sent sent_records (headers s ch lost) records-sent runs) (records-sent last)
-            ∙ sym (cut_headers s ch lost h two ins last.strips w),
+        ap₂ {C = List ℕ} ◌++◌ (all_sent sent_parts (parts s ch lost) parts_sent runs) (parts_sent last) ∙ sym (cut_parts s ch lost h two ins last.strips w),
+        ap₂ {C = List ℕ} ◌++◌ (all_sent sent_records (headers s ch lost) records_sent runs) (records_sent last) ∙ sym (cut_headers s ch lost h two ins last.strips w),
       )

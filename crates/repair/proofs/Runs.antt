@@ -14,31 +14,29 @@ use Rattle.strip_stream.specs.Strips.{strip_bytes, part_bytes, record_count, par
 use Rattle.strip_stream.proofs.Cases.{strip-pos}
 use Rattle.strip_stream.proofs.Writing.{headers-bytes, parts-bytes}
 use Rattle.strip_stream.proofs.Promise.{record_count_lem, part-count, room-written}
-use Rattle.repair.specs.Runs.{run_strips, Room, RunFits, Filled}
+use Rattle.repair.specs.Runs.{run_strips, Room, Ready, Filled}
 
-pub run_room : (s ch : List ℕ) (run l m : ℕ) → RunFits s ch run l m → (strips : List ℕ) → length strips ≤ run → Room s ch strips l m
+pub run_room : (s ch : List ℕ) (run l m : ℕ) → Ready s ch run l m → (strips : List ℕ) → length strips ≤ run → Room s ch strips l m
 run_room s ch run l m ok strips h =
-    let few : rounded_up (length strips) (strip_bytes (n_of s)) ≤ run_strips =
-    rounded_few (length strips) (strip_bytes (n_of s)) run_strips (strip-pos (n_of s)) (omega (arith, ok.strips)) in
+    let few : rounded_up (length strips) (strip_bytes (n_of s)) ≤ run_strips = rounded_few (length strips) (strip_bytes (n_of s)) run_strips (strip-pos (n_of s)) (omega (arith, ok.strips)) in
     record {
       parts_fit = le_trans (mul-le-mul_right (part_bytes (n_of s)) (le_trans (le_of_eq (part-count s ch [] ok.small ok.two strips)) few)) ok.parts_fit;
       records_fit = le_trans (mul-le-mul_right head_bytes (le_trans (le_of_eq (record_count_lem s ch [] ok.small ok.two strips)) few)) ok.records_fit;
     }
 
 -- a run has room for one record
-pub one-room : (m : ℕ) → m ≡ run_strips * head_bytes → head_bytes ≤ m
+pub one_room : (m : ℕ) → m ≡ run_strips * head_bytes → head_bytes ≤ m
 unfolding run_strips
-one-room m e = omega arith
+one_room m e = omega arith
 
-pub one-fits : (s ch : List ℕ) (l m : ℕ) → record_count s ch [] ≡ 1 → part_count s ch [] ≡ 0 → head_bytes ≤ m → Room s ch [] l m
-one-fits s ch l m e q h = record { parts_fit = rw q (omega arith); records_fit = rw e (omega arith) }
+pub one_fits : (s ch : List ℕ) (l m : ℕ) → record_count s ch [] ≡ 1 → part_count s ch [] ≡ 0 → head_bytes ≤ m → Room s ch [] l m
+one_fits s ch l m e q h = record { parts_fit = rw q (omega arith); records_fit = rw e (omega arith) }
 
 module _ (s ch : List ℕ) (n : ℕ) (e : n ≡ n_of s) where
   -- the parts of the longest run fit, so those of any run do
-  pub run_fits : n ≤ largest_n → length ch ≡ 2 → (run l m : ℕ) → run ≡ run_strips * strip_bytes n
-      → l ≡ run_strips * part_bytes largest_n → m ≡ run_strips * head_bytes → RunFits s ch run l m
+  pub ready : n ≤ largest_n → length ch ≡ 2 → (run l m : ℕ) → run ≡ run_strips * strip_bytes n → l ≡ run_strips * part_bytes largest_n → m ≡ run_strips * head_bytes → Ready s ch run l m
   unfolding part_bytes run_strips
-  run_fits h q run l m er el em =
+  ready h q run l m er el em =
       let low = pow_mono {i = n} {j = largest_n} h in
       record {
         small = rw (← e) h;
@@ -54,20 +52,18 @@ unfolding largest_n run_strips strip_bytes
 run_is n h = let l = pow_mono {i = n} {j = largest_n} h in (omega (arith, l), omega (arith, l))
 
 -- the room keeps its size
-pub run-fits-same : (s ch : List ℕ) (run run' l l' m m' : ℕ) → run' ≡ run → l' ≡ l → m' ≡ m → RunFits s ch run l m → RunFits s ch run' l' m'
-run-fits-same s ch run run' l l' m m' e q u ok = rw (e, q, u) ok
+pub ready_same : (s ch : List ℕ) (run run' l l' m m' : ℕ) → run' ≡ run → l' ≡ l → m' ≡ m → Ready s ch run l m → Ready s ch run' l' m'
+ready_same s ch run run' l l' m m' e q u ok = rw (e, q, u) ok
 
 -- ---- what is filled in
 
 -- what `answer` leaves, given room
 module _ (s ch lost strips found x found' y : List ℕ) (a : Answer) (k A j : ℕ) where
-  pub filled_in_lem : (lent : List ℕ) → lent ≡ strips → leaving_both x y a ≡ answering_strips s ch lost lent found found'
-      → Room s ch strips (length found) (length found')
+  pub filled_in_lem : (lent : List ℕ) → lent ≡ strips → leaving_both x y a ≡ answering_strips s ch lost lent found found' → Room s ch strips (length found) (length found')
       → k ≡ part_count s ch lent → A ≡ part_bytes (n_of s) → j ≡ record_count s ch lent → Filled s ch lost strips found x found' y (k * A) (j * head_bytes)
   filled_in_lem lent same p room ek eA ej =
       let w = room-written s ch lost strips found found' x y a (rw same at p) room.records_fit room.parts_fit in
-      let eK : k * A ≡ part_count s ch strips * part_bytes (n_of s) =
-      ap (λ (t : ℕ). t * A) (ek ∙ ap (part_count s ch) same) ∙ ap (λ (t : ℕ). part_count s ch strips * t) eA in
+      let eK : k * A ≡ part_count s ch strips * part_bytes (n_of s) = ap (λ (t : ℕ). t * A) (ek ∙ ap (part_count s ch) same) ∙ ap (λ (t : ℕ). part_count s ch strips * t) eA in
       let eJ : j * head_bytes ≡ record_count s ch strips * head_bytes = ap (λ (t : ℕ). t * head_bytes) (ej ∙ ap (record_count s ch) same) in
       record {
         parts_long = eK ∙ sym (parts-bytes s ch lost strips);

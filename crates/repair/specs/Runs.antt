@@ -1,7 +1,7 @@
 -- A run of strips, and room for their parts and records.
 --     run_strips     the strips of a run
 --     Room          there is room for the parts and records of an input
---     RunFits       what is known of a sheet, a choice and the room for a run
+--     Ready         what is known of a sheet, a choice and the room for a run
 --     Filled        what is filled into the two buffers, and how many bytes
 use Rattle.std.specs.Prelude.{◌≡◌, ℕ, ◌*◌, ◌≤◌, length, drop}
 use mathlib.Core.List.{List, ◌++◌, flatten}
@@ -18,7 +18,7 @@ pub record Room (s ch strips : List ℕ) (l m : ℕ) : Type 0 where
   pub records_fit : record_count s ch strips * head_bytes ≤ m
 
 -- the sheet and the choice have a right length, and there is room for the strips, the parts and the records of a run
-pub record RunFits (s ch : List ℕ) (run l m : ℕ) : Type 0 where
+pub record Ready (s ch : List ℕ) (run l m : ℕ) : Type 0 where
   pub small : n_of s ≤ largest_n
   pub two : length ch ≡ 2
   pub strips : run ≡ run_strips * strip_bytes (n_of s)

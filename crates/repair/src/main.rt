@@ -9,7 +9,7 @@ ghost use Rattle.std.specs.Prelude.{◌≡◌, ◌*◌, ◌≤◌, [], length, t
 ghost use Rattle.meaning.specs.Limits.{largest_n, head_bytes};
 ghost use Rattle.strip_stream.specs.Strips.{strip_bytes, part_bytes, record_count, part_count};
 ghost use Rattle.intake.specs.Turns.{Ends};
-ghost use Rattle.repair.specs.Runs.{run_strips, Room, RunFits, Filled};
+ghost use Rattle.repair.specs.Runs.{run_strips, Room, Ready, Filled};
 
 mod files;
 
@@ -70,8 +70,7 @@ fn fill(
     records: &mut [u8],
 ) -> Sizes
     requires { (got ≤ length input.now) × Room sheet.now choice.now (take got input.now) (length repaired.old) (length records.old) }
-    ensures { Filled sheet.now choice.now lost.now (take got input.now)
-        repaired.old repaired.new records.old records.new result.repaired result.records }
+    ensures { Filled sheet.now choice.now lost.now (take got input.now) repaired.old repaired.new records.old records.new result.repaired result.records }
 {
     let p = strip_stream::parts(sheet, choice, &input[0..got]);
     let k = strip_stream::count(sheet, choice, &input[0..got]);
@@ -127,7 +126,7 @@ fn turn(
     repaired: &mut [u8],
     records: &mut [u8],
 ) -> bool
-    requires { RunFits sheet.now choice.now (length input.old) (length repaired.old) (length records.old) }
+    requires { Ready sheet.now choice.now (length input.old) (length repaired.old) (length records.old) }
 {
     let got = intake::read(STDIN_FILENO, input);
     let written = answer(fd, sheet, choice, lost, input, got.n, repaired, records);
@@ -148,7 +147,7 @@ fn turns(
     repaired: &mut [u8],
     records: &mut [u8],
 ) -> Progress
-    requires { RunFits sheet.now choice.now (length input.old) (length repaired.old) (length records.old) }
+    requires { Ready sheet.now choice.now (length input.old) (length repaired.old) (length records.old) }
     ensures { Ends result.made result.more }
 {
     let mut made = 0u64;
@@ -170,7 +169,7 @@ fn run(
     repaired: &mut [u8],
     records: &mut [u8],
 )
-    requires { RunFits sheet.now choice.now (length input.old) (length repaired.old) (length records.old) }
+    requires { Ready sheet.now choice.now (length input.old) (length repaired.old) (length records.old) }
 {
     let t = turns(fd, sheet, choice, lost, input, repaired, records);
     if t.more {
@@ -205,10 +204,9 @@ fn serve(
     repaired: &mut [u8],
     records: &mut [u8],
 )
-    requires { (length input.old ≡ run_strips * strip_bytes largest_n)
-        × (length repaired.old ≡ run_strips * part_bytes largest_n) × (length records.old ≡ run_strips * head_bytes) }
+    requires { (length input.old ≡ run_strips * strip_bytes largest_n) × (length repaired.old ≡ run_strips * part_bytes largest_n) × (length records.old ≡ run_strips * head_bytes) }
 {
-    let n = sheet::n_of(sheet);
+    let n = stream::n_of(sheet);
     if limits::LARGEST_N < n {
         refuse(
             b"repair: sheet.bin is not 68 N bytes long for an N of 1, 2, 4, .. 512; no strip was read\n",

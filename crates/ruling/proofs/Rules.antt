@@ -22,7 +22,7 @@ use Rattle.bits.specs.Words.{has_bit}
 use Rattle.bits.proofs.Tests.{le_or_lt}
 use Rattle.bits.proofs.WordBits.{zero_bit, leading_bit, shl_bit, shl_low}
 use Rattle.bits.proofs.RowLaws.{length_part, get_or_part, row_fit}
-use Rattle.bits.proofs.RowXor.{length-⊻, ⊻-comm, nought-⊻, one-⊻}
+use Rattle.bits.proofs.RowXor.{length-⊻, ⊻-comm, nought-⊻, one_⊻}
 use Rattle.bits.proofs.RowsWritten.{paste-part, paste_again, paste-set, paste_all, length-written, zeroed-fits, added-fits}
 use Rattle.meaning.specs.Limits.{mask_bytes}
 use Rattle.meaning.specs.Sheet.{byte, names, mask}
@@ -86,8 +86,7 @@ module _ (w to at : ℕ) (us sheet d₁ d₀ : List ℕ) (fit : to + w ≤ lengt
         is = λ c. cleared ∙ sym (over (replicate w 0)) ∙ ap (λ (x : Row). paste d₀ to x w) (named_start c w us sheet at);
       }
 
-  pub sum-all : (j : ℕ) (d : List ℕ) → j ≤ 0 → Sum w to at j us sheet d₀ d
-      → (c : ℕ) → d ≡ paste d₁ to (named (row_values c w) (mask sheet at) (rows w at us)) w
+  pub sum-all : (j : ℕ) (d : List ℕ) → j ≤ 0 → Sum w to at j us sheet d₀ d → (c : ℕ) → d ≡ paste d₁ to (named (row_values c w) (mask sheet at) (rows w at us)) w
   sum-all j d z s c =
       let q : j ≡ 0 = omega arith in
       s.is c ∙ ap (λ (i : ℕ). paste d₀ to (named_from c w us sheet at i) w) q ∙ over (named (row_values c w) (mask sheet at) (rows w at us))
@@ -100,14 +99,12 @@ module _ (w to at : ℕ) (us sheet d₀ : List ℕ) (room : at * w ≤ length us
     last-wide : length last ≡ w
     last-wide = let f = row_fit (j - 1) at w (omega arith) in length_part us ((j - 1) * w) w (omega arith)
 
-    sum_step : (c : ℕ) (t : Bool) → names sheet at (j - 1) ≡ t
-        → named_from c w us sheet at (j - 1) ≡ gate (row_values c w) t last ⊻ named_from c w us sheet at j
+    sum_step : (c : ℕ) (t : Bool) → names sheet at (j - 1) ≡ t → named_from c w us sheet at (j - 1) ≡ gate (row_values c w) t last ⊻ named_from c w us sheet at j
     sum_step c t b =
         let back : suc (j - 1) ≡ j = omega arith in
         named_step c w us sheet at (j - 1) (omega arith) few ∙ ap₂ (λ (t : Bool) (i : ℕ). gate (row_values c w) t last ⊻ named_from c w us sheet at i) b back
 
-    pub sum_hit : names sheet at (j - 1) ≡ true → (d' : List ℕ) → length d' ≡ length d → d' ≡ added d to us ((j - 1) * w) w
-        → Sum w to at (j - 1) us sheet d₀ d'
+    pub sum_hit : names sheet at (j - 1) ≡ true → (d' : List ℕ) → length d' ≡ length d → d' ≡ added d to us ((j - 1) * w) w → Sum w to at (j - 1) us sheet d₀ d'
     sum_hit b d' l e =
         let f = row_fit (j - 1) at w (omega arith) in
         let n : ℕ → Row = λ c. named_from c w us sheet at j in
@@ -125,26 +122,18 @@ module _ (w to at : ℕ) (us sheet d₀ : List ℕ) (room : at * w ≤ length us
 
     pub sum_miss : names sheet at (j - 1) ≡ false → Sum w to at (j - 1) us sheet d₀ d
     sum_miss b =
-        let same : (c : ℕ) → named_from c w us sheet at (j - 1) ≡ named_from c w us sheet at j =
-        λ c. sum_step c false b ∙ nought-⊻ w (named_from c w us sheet at j) (s.wide c) in
-        record {
-          fit = s.fit;
-          size = s.size;
-          wide = λ c. ap length (same c) ∙ s.wide c;
-          is = λ c. s.is c ∙ ap (λ (y : Row). paste d₀ to y w) (sym (same c));
-        }
+        let same : (c : ℕ) → named_from c w us sheet at (j - 1) ≡ named_from c w us sheet at j = λ c. sum_step c false b ∙ nought-⊻ w (named_from c w us sheet at j) (s.wide c) in
+        record { fit = s.fit; size = s.size; wide = λ c. ap length (same c) ∙ s.wide c; is = λ c. s.is c ∙ ap (λ (y : Row). paste d₀ to y w) (sym (same c)) }
 
   -- several positions passed over at once
-  pub sum_skip : (k i : ℕ) → i ≤ at → k ≤ i → ((t : ℕ) → t < k → names sheet at (i - suc t) ≡ false)
-      → (d : List ℕ) → Sum w to at i us sheet d₀ d → Sum w to at (i - k) us sheet d₀ d
+  pub sum_skip : (k i : ℕ) → i ≤ at → k ≤ i → ((t : ℕ) → t < k → names sheet at (i - suc t) ≡ false) → (d : List ℕ) → Sum w to at i us sheet d₀ d → Sum w to at (i - k) us sheet d₀ d
   sum_skip zero i a l f d s = subst (λ (x : ℕ). Sum w to at x us sheet d₀ d) (let e : i ≡ i - 0 = omega arith in e) s
   sum_skip (suc k) i a l f d s =
       let e : (t : ℕ) → i - 1 - suc t ≡ i - suc (suc t) = λ t. omega arith in
       let o : i - 1 ≡ i - suc 0 = omega arith in
       let z : i - 1 - k ≡ i - suc k = omega arith in
       subst (λ (x : ℕ). Sum w to at x us sheet d₀ d) z
-      (sum_skip k (i - 1) (omega arith) (omega arith) (λ t p. ap (names sheet at) (e t) ∙ f (suc t) (omega arith)) d
-      (sum_miss i (omega arith) a d s (ap (names sheet at) o ∙ f 0 (omega arith))))
+      (sum_skip k (i - 1) (omega arith) (omega arith) (λ t p. ap (names sheet at) (e t) ∙ f (suc t) (omega arith)) d (sum_miss i (omega arith) a d s (ap (names sheet at) o ∙ f 0 (omega arith))))
 
   -- and the one below them named
   pub sum-next : (k i : ℕ) → i ≤ at → suc k ≤ i → Gap sheet at i k → k ≤ (i - 1) % 64 → (d : List ℕ) → Sum w to at i us sheet d₀ d
@@ -153,8 +142,7 @@ module _ (w to at : ℕ) (us sheet d₀ : List ℕ) (room : at * w ≤ length us
       let o : i - (k + 1) ≡ i - k - 1 = omega arith in
       let z : i - suc k ≡ i - k - 1 = omega arith in
       subst (λ (x : ℕ). Sum w to at x us sheet d₀ d') (sym o)
-      (sum_hit (i - k) (omega arith) (omega arith) d (sum_skip k i a (omega arith) g.unnamed d s)
-      (ap (names sheet at) (sym z) ∙ g.found h) d' n (e ∙ ap (λ (x : ℕ). added d to us (x * w) w) o))
+      (sum_hit (i - k) (omega arith) (omega arith) d (sum_skip k i a (omega arith) g.unnamed d s) (ap (names sheet at) (sym z) ∙ g.found h) d' n (e ∙ ap (λ (x : ℕ). added d to us (x * w) w) o))
 
 -- ---- the names below a position, by words
 
@@ -184,8 +172,7 @@ module _ (s : List ℕ) (i j x : ℕ) (p : 0 < j) (sp : Spelt s i ((j - 1) / 64)
       let (b, z, on, off) = leading_bit 64 raised (omega (arith, n)) (mod-lt (x * 2 ^ (63 - top)) (omega arith)) in
       let k : ℕ = count_leading_zeros 64 raised in
       let inside : k ≤ top =
-      ⊎_elim (λ (l : 63 - top ≤ b). let m : k ≤ top = omega arith in m)
-      (λ (l : b < 63 - top). absurd (true≢false (sym on ∙ shl_low 64 (63 - top) b x l (omega arith)))) (le_or_lt (63 - top) b) in
+      ⊎_elim (λ (l : 63 - top ≤ b). let m : k ≤ top = omega arith in m) (λ (l : b < 63 - top). absurd (true≢false (sym on ∙ shl_low 64 (63 - top) b x l (omega arith)))) (le_or_lt (63 - top) b) in
       record {
         within = omega arith;
         unnamed = λ t l. sym (below t (omega arith)) ∙ off (63 - t) (omega arith);
@@ -198,8 +185,7 @@ length-named : (c w n : ℕ) (ms : List Bool) (f : ℕ → Row) → ((i : ℕ) �
 length-named c w n [] f k = length-replicate w 0
 length-named c w zero (m ∷ ms) f k = length-replicate w 0
 length-named c w (suc n) (m ∷ ms) f k =
-    length-⊻ (gate (row_values c w) m (f 0)) (named (row_values c w) ms (tab n (λ (i : ℕ). f (suc i)))) w (go m)
-    (length-named c w n ms (λ (i : ℕ). f (suc i)) (λ i p. k (suc i) (omega arith)))
+    length-⊻ (gate (row_values c w) m (f 0)) (named (row_values c w) ms (tab n (λ (i : ℕ). f (suc i)))) w (go m) (length-named c w n ms (λ (i : ℕ). f (suc i)) (λ i p. k (suc i) (omega arith)))
   where
     go : (m : Bool) → length (gate (row_values c w) m (f 0)) ≡ w
     go true = k 0 (omega arith)
@@ -223,10 +209,9 @@ module _ (c w : ℕ) (us : List ℕ) (at : ℕ) (room : at * w ≤ length us) (s
     pub rule_one : k ≡ 1 → set d (to + c) (bit_xor 1 (get_or d (to + c) 0)) ≡ paste d₀ to meant w
     rule_one b =
         let lw = named-wide in
-        let g : get_or d (to + c) 0 ≡ get_or sum_row c 0 =
-        sym (get_or_part d to w c cw) ∙ ap (λ (x : Row). get_or x c 0) (ap (part w to) e ∙ paste-part d₀ sum_row to w fit lw) in
+        let g : get_or d (to + c) 0 ≡ get_or sum_row c 0 = sym (get_or_part d to w c cw) ∙ ap (λ (x : Row). get_or x c 0) (ap (part w to) e ∙ paste-part d₀ sum_row to w fit lw) in
         ap₂ (λ (k : List ℕ) (z : ℕ). set k (to + c) (bit_xor 1 z)) e g ∙ paste-set d₀ sum_row to w fit lw c (bit_xor 1 (get_or sum_row c 0)) cw
-        ∙ ap (λ (x : Row). paste d₀ to x w) (sym (one-⊻ w c 1 sum_row cw lw))
+        ∙ ap (λ (x : Row). paste d₀ to x w) (sym (one_⊻ w c 1 sum_row cw lw))
         ∙ ap (λ (t : Bool). paste d₀ to (gate (row_values c w) t (unit_row c w) ⊻ sum_row) w) (sym (eq-eqb (byte sheet at 1) 1 (sym ek ∙ b)))
 
     pub rule_zero : (k ≡ 1 → ⊥) → d ≡ paste d₀ to meant w

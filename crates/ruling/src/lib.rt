@@ -1,16 +1,15 @@
-// Rows that a position's record asks for: the row of an unknown, and the row that a frozen rule says. A row has words of
-// coefficients, unknown k at bit k mod 64 of word k div 64, then the constant at bit 0 of the next word, then words that stay 0.
-ghost use Rattle.std.specs.Prelude.{◌≡◌, ℕ, ◌+◌, ◌*◌, ◌<◌, ◌≤◌, length};
+// Rows that a position's record asks for: the row of an unknown, and the row that a frozen rule says. A row has w words: c of
+// coefficients, unknown k at bit k mod 64 of word k div 64, then the constant at bit 0 of word c, then words that stay 0.
+ghost use Rattle.std.specs.Prelude.{◌≡◌, ℕ, ◌+◌, ◌*◌, ◌<◌, ◌≤◌, length, eqb};
 ghost use Rattle.std.proofs.Math.Seq.{paste};
 ghost use Rattle.bits.specs.Rows.{rows};
 ghost use Rattle.meaning.specs.Limits.{record_bytes, mask_bytes};
-ghost use Rattle.meaning.specs.Sheet.{mask};
-ghost use Rattle.model.specs.Model.{named};
+ghost use Rattle.meaning.specs.Sheet.{byte, mask};
+ghost use Rattle.model.specs.Model.{named, rule_value};
 ghost use Rattle.model.specs.RowValues.{unknown_row, row_values};
-ghost use Rattle.ruling.specs.Ruling.{row_said, rule_fits, ruled, Gap};
+ghost use Rattle.ruling.specs.Ruling.{fitting, ruled, Gap};
 
 use bits::rows;
-use bits::rows::Width;
 use meaning::limits;
 
 // The row of unknown k, all of `d`: 0 where it has no such bit.
@@ -41,8 +40,7 @@ fn unnamed_below(sheet: &[u8], at: usize, j: usize) -> usize
 fn named_row(d: &mut [u64], to: usize, us: &[u64], sheet: &[u8], at: usize, w: usize)
     requires w_in_bounds { (to + w ≤ length d.old) × (at * w ≤ length us.now) }
     requires at_bound { (at < 8 * mask_bytes) × ((at + 1) * record_bytes ≤ length sheet.now) }
-    ensures { (c : ℕ) → d.new
-        ≡ paste d.old to (named (row_values c w) (mask sheet.now at) (rows w at us.now)) w }
+    ensures { (c : ℕ) → d.new ≡ paste d.old to (named (row_values c w) (mask sheet.now at) (rows w at us.now)) w }
 {
     rows::zero(d, to, w);
     let mut j = at;
@@ -58,26 +56,23 @@ fn named_row(d: &mut [u64], to: usize, us: &[u64], sheet: &[u8], at: usize, w: u
 }
 
 // What the rule of position `at` says, where all is there.
-fn summed(d: &mut [u64], to: usize, us: &[u64], sheet: &[u8], at: usize, width: Width)
-    requires words_in_bounds { (to + width.words ≤ length d.old) × (at * width.words ≤ length us.now) × (width.coeffs < width.words) }
+fn summed(d: &mut [u64], to: usize, us: &[u64], sheet: &[u8], at: usize, c: usize, w: usize)
+    requires w_in_bounds { (to + w ≤ length d.old) × (at * w ≤ length us.now) × (c < w) }
     requires at_bound { (at < 8 * mask_bytes) × ((at + 1) * record_bytes ≤ length sheet.now) }
-    ensures { d.new
-        ≡ paste d.old to (row_said width.coeffs width.words sheet.now at us.now) width.words }
+    ensures { d.new ≡ paste d.old to (rule_value (row_values c w) (eqb (byte sheet.now at 1) 1) (mask sheet.now at) (rows w at us.now)) w }
 {
-    named_row(d, to, us, sheet, at, width.words);
+    named_row(d, to, us, sheet, at, w);
     if sheet::byte(sheet, at, 1) == 1 {
-        let constant = to + width.coeffs;
-        d[constant] = 1 ^ d[constant];
+        d[to + c] = 1 ^ d[to + c];
     }
 }
 
-// Whether a row lies within d words from `to` on and has a word for the constant, `us` words hold the rows before position `at`,
-// and a sheet of this length has record `at`, which is one that a mask can name.
-fn fits(d: usize, to: usize, us: usize, sheet: usize, at: usize, width: Width) -> bool
-    ensures { result ≡ rule_fits d to us sheet at width.coeffs width.words }
+// Whether a row of w words lies within d words from `to` on, `us` words hold the rows before position `at`, and a sheet of
+// this length has record `at`, which is one that a mask can name.
+fn fits(d: usize, to: usize, us: usize, sheet: usize, at: usize, c: usize, w: usize) -> bool
+    ensures { result ≡ fitting d to us sheet at c w }
 {
-    let w = width.words;
-    if w <= width.coeffs {
+    if w <= c {
         return false;
     }
     if limits::POSITIONS <= at {
@@ -97,10 +92,10 @@ fn fits(d: usize, to: usize, us: usize, sheet: usize, at: usize, width: Width) -
 
 // Writes what the rule of position `at` says to the row of `d` at `to`: the sum of the rows of `us` before `at` that its record
 // names, and the constant. `d` is left as it is where the row, a row before it or the record is not there.
-pub fn rule_row(d: &mut [u64], to: usize, us: &[u64], sheet: &[u8], at: usize, width: Width)
-    ensures { d.new ≡ ruled d.old to us.now sheet.now at width.coeffs width.words }
+pub fn rule_row(d: &mut [u64], to: usize, us: &[u64], sheet: &[u8], at: usize, c: usize, w: usize)
+    ensures { d.new ≡ ruled d.old to us.now sheet.now at c w }
 {
-    if fits(d.len(), to, us.len(), sheet.len(), at, width) {
-        summed(d, to, us, sheet, at, width);
+    if fits(d.len(), to, us.len(), sheet.len(), at, c, w) {
+        summed(d, to, us, sheet, at, c, w);
     }
 }

@@ -1,16 +1,18 @@
-// The one reader of code sheets: where their bytes lie, the numbers that n and r stand for, and the count of a sheet's free
-// positions. Every function here is total.
+// The one reader of code sheets: where their bytes lie, the numbers that n and r stand for, the checks of a sheet and of a word that
+// stand before every other call, in 01's order, and the count of a sheet's free positions. Every function here is total.
 ghost use Rattle.std.specs.Prelude.{◌≡◌, ◌/◌, length, eqb};
 ghost use Rattle.bits.specs.Vectors.{tab};
 ghost use Rattle.meaning.specs.Limits.{record_bytes};
 ghost use Rattle.meaning.specs.Sheet.{byte, rule_at, frees};
-ghost use Rattle.meaning.specs.Answers.{checkLength};
-ghost use Rattle.meaning.specs.Stream.{n_of};
+ghost use Rattle.meaning.specs.Answers.{checkLength, fault, callRefusals, checking, wording};
 ghost use Rattle.sheet.specs.Masks.{WordOf};
 ghost use Rattle.sheet.specs.Shapes.{positions, recorded, shaped};
 
+mod faults;
+mod word;
+
 use bits::octets;
-use meaning::limits;
+use meaning::{Answer, limits};
 
 // Words of a record's mask.
 pub const MASK_WORDS: usize = limits::MASK / 8;
@@ -83,20 +85,6 @@ pub fn recorded(n: usize, sheet: usize) -> bool
     sheet == size(n) * limits::RECORD
 }
 
-// The n of a sheet of N = 2 to the n records, from its length; 10 where no n up to 9 has such a sheet.
-pub fn n_of(sheet: &[u8]) -> usize
-    ensures { result ≡ n_of sheet.now }
-{
-    let mut n = 0;
-    while n <= limits::LARGEST_N {
-        if recorded(n, sheet.len()) {
-            return n;
-        }
-        n += 1;
-    }
-    n
-}
-
 // Whether a sheet and a word of these lengths have N records and N symbols, n at most limits::LARGEST_N.
 pub fn shaped(n: usize, sheet: usize, word: usize) -> bool
     ensures { result ≡ shaped n sheet word }
@@ -118,6 +106,71 @@ pub fn is_check_length(r: usize) -> bool
         return true;
     }
     r == 11
+}
+
+// Checks a sheet of N = 2 to the n records, with its check length r.
+// Answers Done, or BadShape (11: n above 9, or not 68N bytes), BadRecord (12: the place of the first record that breaks
+// any rule), HoldsNothing (19: no free position), BadCheck (13: r not 0, 6 or 11, or r above 0 and no more than r free
+// positions); the first that applies.
+pub fn check_sheet(n: usize, sheet: &[u8], r: usize) -> Answer
+    ensures { result ≡ checking n sheet.now r }
+{
+    if !recorded(n, sheet.len()) {
+        return Answer::BadShape;
+    }
+    let size = sheet.len() / limits::RECORD;
+    let place = faults::first_bad(sheet);
+    if place < size {
+        return Answer::BadRecord { place };
+    }
+    let k = count_free(sheet);
+    let bad = faults::bad_check(r, k);
+    if k == 0 {
+        return Answer::HoldsNothing;
+    }
+    if bad {
+        return Answer::BadCheck;
+    }
+    Answer::Done
+}
+
+// Checks a word that is to be `wanted` symbols long, none above `top`, whose call is given `room` bytes and needs `needed`.
+// Answers Done, or BadLength (14), BadSymbol (15: the place of the first symbol above `top`), ShortOutput (16); the first
+// that applies.
+pub fn check_word(word: &[u8], wanted: usize, top: u8, room: usize, needed: usize) -> Answer
+    ensures { result ≡ wording wanted top needed word.now room }
+{
+    if word.len() != wanted {
+        return Answer::BadLength;
+    }
+    let place = word::first_above(word, top);
+    if place < word.len() {
+        return Answer::BadSymbol { place };
+    }
+    if room < needed {
+        return Answer::ShortOutput;
+    }
+    Answer::Done
+}
+
+// Checks the sheet and the word of a call, as check_sheet and then check_word do: the refusals 11 to 16 of every call.
+pub fn check_call(
+    n: usize,
+    sheet: &[u8],
+    r: usize,
+    word: &[u8],
+    wanted: usize,
+    top: u8,
+    room: usize,
+    needed: usize,
+) -> Answer
+    ensures { result ≡ fault (callRefusals n sheet.now r wanted top needed word.now room) }
+{
+    let a = check_sheet(n, sheet, r);
+    if !answers::is_done(a) {
+        return a;
+    }
+    check_word(word, wanted, top, room, needed)
 }
 
 // The number of free positions of a sheet, K: of its whole records of 68 bytes, those whose byte 0 is 0.

@@ -15,8 +15,7 @@ use lib.Dec.{ltb}
 use borrow.Author.Tests.{ne_eqb, lt-ltb}
 use Rattle.bits.proofs.Tests.{le_or_lt, or_true}
 use Rattle.meaning.specs.Limits.{layout, largest_n, mask_bytes, record_bytes, old_mask_bytes, old_record_bytes}
-use Rattle.meaning.specs.Answers.{badShape, sheetRefusals, encodeRefusals, readRefusals, formRefusals}
-use Rattle.meaning.specs.Answers.{decodeRefusals, leaving, checking, encoding, readingBack, decoding}
+use Rattle.meaning.specs.Answers.{badShape, sheetRefusals, encodeRefusals, readRefusals, formRefusals, decodeRefusals, leaving, checking, encoding, readingBack, decoding}
 use Rattle.meaning.specs.Stream.{refused_record, n_of, records}
 use Rattle.meaning.specs.declared.Answer.TheVariants.{BadShape}
 use Rattle.meaning.proofs.Sizing.{size-right}
@@ -32,8 +31,7 @@ fours (suc a) p h = omega (arith, double a p, fours a p h)
 
 -- twice a multiple of 4 is a multiple of 8
 not_twice : (x p : ℕ) → x % 4 ≡ 0 → p % 8 ≡ 4 → p ≡ x + x → ⊥
-not_twice x p h k e =
-    ⊎_elim (λ l. omega (arith, div-add-mod x 4, div-add-mod p 8)) (λ l. omega (arith, div-add-mod x 4, div-add-mod p 8)) (le_or_lt (x / 4) (p / 8))
+not_twice x p h k e = ⊎_elim (λ l. omega (arith, div-add-mod x 4, div-add-mod p 8)) (λ l. omega (arith, div-add-mod x 4, div-add-mod p 8)) (le_or_lt (x / 4) (p / 8))
 
 -- records of 4 bytes and a mask of whole words, 8 bytes each
 pub sizes_apart : (a b p q : ℕ) → p % 8 ≡ 4 → q % 8 ≡ 4 → 2 ^ a * p ≡ 2 ^ b * q → p ≡ q

@@ -27,8 +27,7 @@ pub too_large : (n : ℕ) (s out : List ℕ) → old_largest_n < n → leaving o
 unfolding converting convert_refusals
 too_large n s out h = rw (lt-ltb old_largest_n n h)
 
-pub not-long : (n : ℕ) (s out : List ℕ) (size : ℕ) → n ≤ old_largest_n → size ≡ 2 ^ n
-    → (length s ≡ size * old_record_bytes → ⊥) → leaving out BadShape ≡ converting n s out
+pub not-long : (n : ℕ) (s out : List ℕ) (size : ℕ) → n ≤ old_largest_n → size ≡ 2 ^ n → (length s ≡ size * old_record_bytes → ⊥) → leaving out BadShape ≡ converting n s out
 unfolding converting convert_refusals
 not-long n s out size h e l = rw (le-ltb old_largest_n n h, ne_eqb (length s) (2 ^ n * old_record_bytes) (λ k. l (k ∙ ap (λ (m : ℕ). m * old_record_bytes) (sym e))))
 
@@ -42,11 +41,11 @@ abbrev hand_left : Bool → Bool → ℕ → List ℕ → List ℕ → Reply
 hand_left b o i sheet out = pick b (leaving out (BadRecord i)) (pick o (leaving out ShortOutput) (writing sheet out Done))
 
 -- 12 is the code of a bad record alone
-code_12_bad_record : (b k h : Bool) (i : ℕ) → get_or (numbersOf (check_left b k h i)) 0 0 ≡ 12 → b ≡ true
-code_12_bad_record true k h i e = refl
-code_12_bad_record false true h i e = absurd (omega arith)
-code_12_bad_record false false true i e = absurd (omega arith)
-code_12_bad_record false false false i e = absurd (omega arith)
+told : (b k h : Bool) (i : ℕ) → get_or (numbersOf (check_left b k h i)) 0 0 ≡ 12 → b ≡ true
+told true k h i e = refl
+told false true h i e = absurd (omega arith)
+told false false true i e = absurd (omega arith)
+told false false false i e = absurd (omega arith)
 
 other : (b k h : Bool) (i : ℕ) → (get_or (numbersOf (check_left b k h i)) 0 0 ≡ 12 → ⊥) → b ≡ false
 other true k h i e = absurd (e refl)
@@ -77,9 +76,8 @@ module _ (n : ℕ) (sheet out : List ℕ) (shape : badShape n sheet ≡ false) w
     pub bad : get_or v 0 0 ≡ 12 → leaving out a ≡ handing n sheet out
     unfolding handing
     bad h =
-        let t : B ≡ true = code_12_bad_record B K H i (sym code ∙ h) in
-        ap (leaving out) (ea ∙ checked ∙ ap (λ (b : Bool). check_left b K H i) t)
-        ∙ sym (ap (λ (b : Bool). hand_left b (ltb (length out) (length sheet)) i sheet out) t)
+        let t : B ≡ true = told B K H i (sym code ∙ h) in
+        ap (leaving out) (ea ∙ checked ∙ ap (λ (b : Bool). check_left b K H i) t) ∙ sym (ap (λ (b : Bool). hand_left b (ltb (length out) (length sheet)) i sheet out) t)
 
     module _ (h : get_or v 0 0 ≡ 12 → ⊥) where
       good : (o : Bool) → ltb (length out) (length sheet) ≡ o → handing n sheet out ≡ hand_left false o i sheet out

@@ -27,7 +27,7 @@ use Rattle.meaning.proofs.Refusals.{done_none, first-none, refused_untouched}
 use Rattle.meaning.proofs.Determined.{reply_determined}
 use Rattle.sheet_convert.specs.Conversion.{widened, convert_refusals, converting, Old}
 use Rattle.sheet_convert.proofs.Widening.{wider, new-long}
-use Rattle.sheet_convert.proofs.Same.{same-frees, same_code, same_payload, same-agreeing, same-unknowns, same-equations, same_check}
+use Rattle.sheet_convert.proofs.Same.{same-frees, same_code, same_payload, same_agreeing, same-unknowns, same-equations, same_check}
 
 -- `sheet` is the code that `old` was
 pub record Converted (n : ℕ) (old sheet : List ℕ) : Type 0 where
@@ -51,7 +51,7 @@ same n old o =
       code = λ r. ap (λ (ks : List Rule). codewords n ks r) e ∙ same_code wider n old r;
       count = ap frees e ∙ same-frees wider n old;
       payload = λ r x. ap (λ (ks : List Rule). payload_of n ks r x) e ∙ same_payload wider n old r x;
-      agreeing = λ w r. ap (λ (ks : List Rule). candidates n ks r w) e ∙ same-agreeing wider n old w r;
+      agreeing = λ w r. ap (λ (ks : List Rule). candidates n ks r w) e ∙ same_agreeing wider n old w r;
       g = λ w. ap (λ (ks : List Rule). unknowns n ks w) e ∙ same-unknowns wider n old w;
       m = λ w r. ap (λ (ks : List Rule). equations n ks r w) e ∙ same-equations wider n old w r;
       check = λ r. checking_today n (widened old_layout layout n old) r ∙ same_check wider n old o.small o.long r;
@@ -90,8 +90,7 @@ module _ (n : ℕ) (old out x : List ℕ) (a : Answer) (p : reply x a ≡ conver
     unfolding convert_refusals
     roomy =
         let rest = or_false_r (badShapeIn old_layout n old) _ none in
-        ltb-false (length out) (2 ^ n * record_bytes)
-        (or_false_l (ltb (length out) (2 ^ n * record_bytes)) _ (or_false_r (ltb (bad_in old_layout n old) (2 ^ n)) _ rest))
+        ltb-false (length out) (2 ^ n * record_bytes) (or_false_l (ltb (length out) (2 ^ n * record_bytes)) _ (or_false_r (ltb (bad_in old_layout n old) (2 ^ n)) _ rest))
 
     -- for as many records of today's size as were given
     pub new-fits : length old / old_record_bytes * record_bytes ≤ length out
@@ -108,6 +107,4 @@ module _ (n : ℕ) (old out x : List ℕ) (a : Answer) (p : reply x a ≡ conver
     convert_same = rw front (same n old given)
 
     pub convert_rest : drop (2 ^ n * record_bytes) x ≡ drop (2 ^ n * record_bytes) out
-    convert_rest =
-        ap (drop (2 ^ n * record_bytes)) bytes ∙ drop_at (widened old_layout layout n old) _ _ (new-long wider n old)
-        ∙ ap (λ (k : ℕ). drop k out) (new-long wider n old)
+    convert_rest = ap (drop (2 ^ n * record_bytes)) bytes ∙ drop_at (widened old_layout layout n old) _ _ (new-long wider n old) ∙ ap (λ (k : ℕ). drop k out) (new-long wider n old)

@@ -2,9 +2,9 @@
 --     same-frees     K, the number of free positions, is the same
 --     same_code      the codewords are the same, in the same order, with any r
 --     same_payload   every codeword carries the same payload
---     same-agreeing, same-unknowns, same-equations     of any word: the agreeing codewords, g and m are the same
+--     same_agreeing, same-unknowns, same-equations     of any word: the agreeing codewords, g and m are the same
 --     same_check     the check says of it, with any r, what the old check says of the old sheet
-use mathlib.Core.Path.{◌≡◌, refl, sym, ap, ap₂, ◌∙◌}
+use mathlib.Core.Path.{◌≡◌, refl, ap, ap₂, ◌∙◌}
 use Prim.Native.Nat.{ℕ, zero, suc, ◌+◌, ◌*◌, ◌-◌, ◌^◌, ◌≤◌}
 use native.Mathlib.Omega.{arith}
 use mathlib.Core.Bool.{Bool, false, ◌&&◌, not}
@@ -12,7 +12,6 @@ use mathlib.Core.List.{List, [], ◌∷◌, ◌++◌, map}
 use lib.ListN.{length, take}
 use borrow.Author.Tests.{le-ltb, eq-eqb}
 use Rattle.bits.specs.Vectors.{◌⊕◌, tab, filter, keep, odd, ones, all_bits}
-use Rattle.bits.proofs.Tests.{map-tab}
 use Rattle.meaning.specs.Limits.{Layout, leads}
 use Rattle.meaning.specs.Transform.{polar}
 use Rattle.meaning.specs.Sheet.{Rule, free, frozen, rule_in, rules_in, frees}
@@ -66,6 +65,10 @@ module _ (k : ℕ) where
   unfolding keeps
   keeps_same ks r u = ap₂ (λ (x : Bool) (f : List Bool). x && divides r (leads r ++ f)) (keeps_grown ks u u) (free_grown ks u)
 
+  map-tab : (n : ℕ) (f : ℕ → Rule) → tab n (λ (i : ℕ). grown_rule k (f i)) ≡ map (grown_rule k) (tab n f)
+  map-tab zero f = refl
+  map-tab (suc n) f = ap {B = List Rule} (λ t. grown_rule k (f 0) ∷ t) (map-tab n (λ (i : ℕ). f (suc i)))
+
 filter_same : {A : Type 0} (p q : A → Bool) → ((a : A) → p a ≡ q a) → (l : List A) → filter p l ≡ filter q l
 filter_same p q h [] = refl
 filter_same {A} p q h (a ∷ l) = ap₂ {C = List A} (λ b t. keep b a t) (h a) (filter_same p q h l)
@@ -78,7 +81,7 @@ module _ {L M : Layout} (W : Wider L M) (n : ℕ) (s : List ℕ) where
 
   grown_rules : rules_in M n (widened L M n s) ≡ map (grown_rule (more L M)) ks
   unfolding rules_in
-  grown_rules = new-rules W n s ∙ sym (map-tab (grown_rule (more L M)) (2 ^ n) (rule_in L s))
+  grown_rules = new-rules W n s ∙ map-tab (more L M) (2 ^ n) (rule_in L s)
 
   pub same-frees : frees (rules_in M n (widened L M n s)) ≡ frees (rules_in L n s)
   same-frees = ap frees grown_rules ∙ frees_grown (more L M) ks
@@ -93,14 +96,13 @@ module _ {L M : Layout} (W : Wider L M) (n : ℕ) (s : List ℕ) where
   pub same_payload : (r : ℕ) (x : List Bool) → payload_of n (rules_in M n (widened L M n s)) r x ≡ payload_of n (rules_in L n s) r x
   unfolding payload_of
   same_payload r x =
-      ap₂ (λ (k : ℕ) (f : List Bool). take (k - r) f) same-frees
-      (ap (λ (rs : List Rule). free_bits rs (polar n x)) grown_rules ∙ free_grown (more L M) ks (polar n x))
+      ap₂ (λ (k : ℕ) (f : List Bool). take (k - r) f) same-frees (ap (λ (rs : List Rule). free_bits rs (polar n x)) grown_rules ∙ free_grown (more L M) ks (polar n x))
 
   -- of any word
   module _ (w : List ℕ) where
-    pub same-agreeing : (r : ℕ) → candidates n (rules_in M n (widened L M n s)) r w ≡ candidates n (rules_in L n s) r w
+    pub same_agreeing : (r : ℕ) → candidates n (rules_in M n (widened L M n s)) r w ≡ candidates n (rules_in L n s) r w
     unfolding candidates
-    same-agreeing r = ap (filter (agrees w)) (same_code r)
+    same_agreeing r = ap (filter (agrees w)) (same_code r)
 
     pub same-unknowns : unknowns n (rules_in M n (widened L M n s)) w ≡ unknowns n (rules_in L n s) w
     unfolding unknowns
@@ -108,8 +110,7 @@ module _ {L M : Layout} (W : Wider L M) (n : ℕ) (s : List ℕ) where
 
     pub same-equations : (r : ℕ) → equations n (rules_in M n (widened L M n s)) r w ≡ equations n (rules_in L n s) r w
     unfolding equations
-    same-equations r =
-        ap (λ (o : List Bool). ones o + r) (ap (λ (rs : List Rule). closed_frozen rs (open_all n w)) grown_rules ∙ closed_grown (more L M) ks (open_all n w))
+    same-equations r = ap (λ (o : List Bool). ones o + r) (ap (λ (rs : List Rule). closed_frozen rs (open_all n w)) grown_rules ∙ closed_grown (more L M) ks (open_all n w))
 
   module _ (small : n ≤ L.largest) (long : length s ≡ 2 ^ n * L.bytes) where
     few : n ≤ M.largest

@@ -120,8 +120,7 @@ module _ {L M : Layout} (W : Wider L M) (n : ℕ) (s : List ℕ) where
     new-mask =
         ap (λ (k : ℕ). tab k (names_in M new i)) (let e : 8 * M.mask ≡ 8 * L.mask + more L M = omega arith in e)
         ∙ tab_append (8 * L.mask) (more L M) (names_in M new i)
-        ∙ ap₂ {C = List Bool} ◌++◌ (tab_below (8 * L.mask) (names_in M new i) (names_in L s i) (λ j l. same_names j l))
-        (none-tab (more L M) (λ (j : ℕ). names_in M new i (8 * L.mask + j)) (λ j l. no_names (8 * L.mask + j) (omega arith) (omega arith)))
+        ∙ ap₂ {C = List Bool} ◌++◌ (tab_below (8 * L.mask) (names_in M new i) (names_in L s i) (λ j l. same_names j l)) (none-tab (more L M) (λ (j : ℕ). names_in M new i (8 * L.mask + j)) (λ j l. no_names (8 * L.mask + j) (omega arith) (omega arith)))
 
     head_byte : (k : ℕ) → k < 4 → byte_in M new i k ≡ byte_in L s i k
     head_byte k l = same_byte k (omega arith)
@@ -130,8 +129,7 @@ module _ {L M : Layout} (W : Wider L M) (n : ℕ) (s : List ℕ) where
     unfolding rule_in
     new_rule = rw (head_byte 0 (omega arith), head_byte 1 (omega arith), new-mask) (go (eqb (byte_in L s i 0) 0))
       where
-        go : (b : Bool) → pick b free (frozen (eqb (byte_in L s i 1) 1) (grown (more L M) (mask_in L s i)))
-            ≡ grown_rule (more L M) (pick b free (frozen (eqb (byte_in L s i 1) 1) (mask_in L s i)))
+        go : (b : Bool) → pick b free (frozen (eqb (byte_in L s i 1) 1) (grown (more L M) (mask_in L s i))) ≡ grown_rule (more L M) (pick b free (frozen (eqb (byte_in L s i 1) 1) (mask_in L s i)))
         go true = refl
         go false = refl
 
@@ -141,9 +139,7 @@ module _ {L M : Layout} (W : Wider L M) (n : ℕ) (s : List ℕ) where
       low = omega (arith, length-tab (8 * L.mask) (names_in L s i), h, pow_mono small)
 
       late : zeros (drop i (mask_in M new i)) ≡ zeros (drop i (mask_in L s i))
-      late =
-          ap (λ (m : List Bool). zeros (drop i m)) new-mask ∙ ap zeros (drop-append-le i (mask_in L s i) (replicate (more L M) false) low)
-          ∙ zeros_grown (drop i (mask_in L s i)) (more L M)
+      late = ap (λ (m : List Bool). zeros (drop i m)) new-mask ∙ ap zeros (drop-append-le i (mask_in L s i) (replicate (more L M) false) low) ∙ zeros_grown (drop i (mask_in L s i)) (more L M)
 
       none : zeros (mask_in M new i) ≡ zeros (mask_in L s i)
       none = ap zeros new-mask ∙ zeros_grown (mask_in L s i) (more L M)

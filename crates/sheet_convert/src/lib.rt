@@ -55,7 +55,7 @@ fn hand_out(n: usize, sheet: &[u8], out: &mut [u8]) -> Answer
     requires { badShape n sheet.now ≡ false }
     ensures { reply out.new result ≡ handing n sheet.now out.old }
 {
-    let a = refusals::check_sheet(n, sheet, 0);
+    let a = sheet::check_sheet(n, sheet, 0);
     let v = answers::numbers(a);
     if v[0] == 12 {
         return a;

@@ -21,8 +21,7 @@ none k rs z m = (missed Unit k rs z m).1
 
 -- the five numbers of a record
 module _ (r : List ℕ) {code place g m d : ℕ} where
-  pub line_is : code ≡ number_at r 0 → place ≡ number_at r 2 → g ≡ number_at r 4
-      → m ≡ number_at r 6 → d ≡ number_at r 8 → said_of code place g m d ++ 10 ∷ [] ≡ line_of r
+  pub line_is : code ≡ number_at r 0 → place ≡ number_at r 2 → g ≡ number_at r 4 → m ≡ number_at r 6 → d ≡ number_at r 8 → said_of code place g m d ++ 10 ∷ [] ≡ line_of r
   unfolding line_of
   line_is p q s t u = cc
 

@@ -44,8 +44,7 @@ fn counts(out: &mut [u8], label: &[u8], g: u64, m: u64, d: u64) -> usize
 // A number between two texts, in `width` places or more.
 fn with_number(out: &mut [u8], before: &[u8], width: usize, n: u64, behind: &[u8]) -> usize
     requires { (width ≤ 20) × (length before.now + 20 + length behind.now < length out.old) }
-    ensures { Written out.old out.new 0 result (between before.now width n behind.now)
-        × (result < length out.new) }
+    ensures { Written out.old out.new 0 result (between before.now width n behind.now) × (result < length out.new) }
 {
     let a = text::put(out, 0, before);
     let b = text::put_number(out, a, n, width);
@@ -127,8 +126,7 @@ fn said(out: &mut [u8], code: u64, place: u64, g: u64, m: u64, d: u64) -> usize
 // The line of a record.
 pub fn line(answer: &[u8], out: &mut [u8]) -> usize
     requires { (length answer.now ≡ answer_bytes) × (longest_line ≤ length out.old) }
-    ensures { (result ≡ length (line_of answer.now)) × (result ≤ length out.new)
-        × (take result out.new ≡ line_of answer.now) }
+    ensures { (result ≡ length (line_of answer.now)) × (result ≤ length out.new) × (take result out.new ≡ line_of answer.now) }
 {
     let code = two(answer, 0);
     let place = two(answer, 2);

@@ -9,8 +9,7 @@ pub unique_is : solved 1 2 (3 ∷ 1 ∷ 2 ∷ 1 ∷ []) (1 ∷ 0 ∷ []) ≡ don
 unfolding solved solve steps pass fits top flatten clear_at has_at ◌⊻◌
 unique_is = refl
 
-pub ambiguous_is : solved 2 3 (1 ∷ 1 ∷ 1 ∷ 0 ∷ 2 ∷ 1 ∷ []) (0 ∷ 1 ∷ 0 ∷ 0 ∷ 2 ∷ 0 ∷ [])
-    ≡ done (1 ∷ 1 ∷ 1 ∷ 0 ∷ 2 ∷ 1 ∷ []) (1 ∷ 0 ∷ 1 ∷ 0 ∷ 0 ∷ 1 ∷ []) (Rank 2)
+pub ambiguous_is : solved 2 3 (1 ∷ 1 ∷ 1 ∷ 0 ∷ 2 ∷ 1 ∷ []) (0 ∷ 1 ∷ 0 ∷ 0 ∷ 2 ∷ 0 ∷ []) ≡ done (1 ∷ 1 ∷ 1 ∷ 0 ∷ 2 ∷ 1 ∷ []) (1 ∷ 0 ∷ 1 ∷ 0 ∷ 0 ∷ 1 ∷ []) (Rank 2)
 unfolding solved solve steps pass fits top flatten clear_at has_at ◌⊻◌
 ambiguous_is = refl
 
@@ -22,8 +21,7 @@ pub misfit_is : solved 1 2 (1 ∷ 1 ∷ 1 ∷ []) (0 ∷ 1 ∷ []) ≡ done (1 �
 unfolding solved fits
 misfit_is = refl
 
-pub wide_is : solved 2 4 (5 ∷ 1 ∷ 1 ∷ 7 ∷ 4 ∷ 1 ∷ 2 ∷ 9 ∷ 1 ∷ 0 ∷ 3 ∷ 14 ∷ []) (4 ∷ 0 ∷ 0 ∷ 0 ∷ [])
-    ≡ done (4 ∷ 1 ∷ 2 ∷ 9 ∷ 1 ∷ 0 ∷ 3 ∷ 14 ∷ 0 ∷ 0 ∷ 0 ∷ 0 ∷ []) (4 ∷ 0 ∷ 0 ∷ 0 ∷ []) (Rank 2)
+pub wide_is : solved 2 4 (5 ∷ 1 ∷ 1 ∷ 7 ∷ 4 ∷ 1 ∷ 2 ∷ 9 ∷ 1 ∷ 0 ∷ 3 ∷ 14 ∷ []) (4 ∷ 0 ∷ 0 ∷ 0 ∷ []) ≡ done (4 ∷ 1 ∷ 2 ∷ 9 ∷ 1 ∷ 0 ∷ 3 ∷ 14 ∷ 0 ∷ 0 ∷ 0 ∷ 0 ∷ []) (4 ∷ 0 ∷ 0 ∷ 0 ∷ []) (Rank 2)
 unfolding solved solve steps pass fits top flatten clear_at has_at ◌⊻◌
 wide_is = refl
 

@@ -39,9 +39,7 @@ sound-is = ap (λ (b : Bool). pick b Solvable Not) (solvable 2 sound [] (has 128
 
 pub contradiction_is : verdict_of 1 2 (3 ∷ 1 ∷ 6 ∷ 0 ∷ 5 ∷ 0 ∷ []) ≡ Not
 unfolding verdict_of contradiction
-contradiction_is =
-    ap (λ (b : Bool). pick b Solvable Not)
-    (solvable 1 contradiction [] (has 64) (has-⊻ 64) 64 (omega arith) (λ i l. lead_le 1 (at contradiction i)) ∙ contradiction_left)
+contradiction_is = ap (λ (b : Bool). pick b Solvable Not) (solvable 1 contradiction [] (has 64) (has-⊻ 64) 64 (omega arith) (λ i l. lead_le 1 (at contradiction i)) ∙ contradiction_left)
 
 pub no-constant-is : verdict_of 2 2 (3 ∷ 1 ∷ []) ≡ Misfit
 unfolding verdict_of

@@ -64,17 +64,17 @@ constant v a c w h =
     let q : 64 * c % 64 ≡ 0 = omega arith in
     rw (p, q, get_or_part v a w c h, div-one (get_or v (a + c) 0)) refl
 
-one-row : (v : List ℕ) (a c w n : ℕ) → 0 < n → consistent c (has (64 * c)) (rows w n (drop a v))
+one_row : (v : List ℕ) (a c w n : ℕ) → 0 < n → consistent c (has (64 * c)) (rows w n (drop a v))
     ≡ (led c (take w (drop a v)) || not (has (64 * c) (take w (drop a v)))) && consistent c (has (64 * c)) (rows w (n - 1) (drop (a + w) v))
-one-row v a c w zero h = absurd (omega arith)
-one-row v a c w (suc n) h =
+one_row v a c w zero h = absurd (omega arith)
+one_row v a c w (suc n) h =
     let s : suc n - 1 ≡ n = omega arith in
     ap (consistent c (has (64 * c))) (rows-suc w n (drop a v)) ∙ rw (s, drop-drop w a v) refl
 
 pub row_bad : (v : List ℕ) (a c w n : ℕ) → 0 < n → c < w → a + w ≤ length v → all is_zero (take c (drop a v)) ≡ true → get_or v (a + c) 0 % 2 ≡ 1
     → consistent c (has (64 * c)) (rows w n (drop a v)) ≡ false
 row_bad v a c w n h l m b o =
-    one-row v a c w n h
+    one_row v a c w n h
     ∙ ap₂ (λ (x y : Bool). (x || not y) && consistent c (has (64 * c)) (rows w (n - 1) (drop (a + w) v)))
     (blank_led v a c (omega arith) w (omega arith) b) (constant v a c w l ∙ eq-eqb (get_or v (a + c) 0 % 2) 1 o)
 
@@ -82,11 +82,10 @@ pub row_good : (v : List ℕ) (a c w n : ℕ) → 0 < n → c < w → a + w ≤ 
     → (get_or v (a + c) 0 % 2 ≡ 1 → ⊥) ⊎ (all is_zero (take c (drop a v)) ≡ false)
     → consistent c (has (64 * c)) (rows w (n - 1) (drop (a + w) v)) ≡ consistent c (has (64 * c)) (rows w n (drop a v))
 row_good v a c w n h l m f d =
-    sym (one-row v a c w n h ∙ ap (λ (x : Bool). x && consistent c (has (64 * c)) (rows w (n - 1) (drop (a + w) v))) (go d))
+    sym (one_row v a c w n h ∙ ap (λ (x : Bool). x && consistent c (has (64 * c)) (rows w (n - 1) (drop (a + w) v))) (go d))
   where
     go : (get_or v (a + c) 0 % 2 ≡ 1 → ⊥) ⊎ (all is_zero (take c (drop a v)) ≡ false) → led c (take w (drop a v)) || not (has (64 * c) (take w (drop a v))) ≡ true
-    go (inl o) =
-        ap (λ (y : Bool). led c (take w (drop a v)) || not y) (constant v a c w l ∙ ne_eqb (get_or v (a + c) 0 % 2) 1 o) ∙ or_true (led c (take w (drop a v)))
+    go (inl o) = ap (λ (y : Bool). led c (take w (drop a v)) || not y) (constant v a c w l ∙ ne_eqb (get_or v (a + c) 0 % 2) 1 o) ∙ or_true (led c (take w (drop a v)))
     go (inr b) = ap (λ (x : Bool). x || not (has (64 * c) (take w (drop a v)))) (led_blank v a c (omega arith) w (omega arith) f b)
 
 pub rows_none : (c w n : ℕ) (l : List ℕ) → n ≡ 0 → consistent c (has (64 * c)) (rows w n l) ≡ true

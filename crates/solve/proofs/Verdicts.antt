@@ -64,8 +64,7 @@ module _ (c w : ℕ) (e e₁ r₁ : List ℕ) (o : Outcome) (cw : c < w) (h : do
     -- the rows at exit are those that the law speaks of
     exit : consistent c (has (64 * c)) (rows_of w e₁) ≡ solvable c w e
     exit =
-        ap (consistent c (has (64 * c))) ((left c w e [] e₁ r₁ o (fits-is c w e cw ∙ rem) h).eqs_are
-        ∙ ap (λ (r : List Row). (solve c (rows_of w e) r).eqs) (no_rows w))
+        ap (consistent c (has (64 * c))) ((left c w e [] e₁ r₁ o (fits-is c w e cw ∙ rem) h).eqs_are ∙ ap (λ (r : List Row). (solve c (rows_of w e) r).eqs) (no_rows w))
         ∙ sym (solvable-is c (rows_of w e) [] (has (64 * c)) (has-⊻ (64 * c)) (64 * c) (omega arith) (λ i l. lead_le c (at (rows_of w e) i)))
 
     pub verdict : (b : Bool) → b ≡ consistent c (has (64 * c)) (rows_of w e₁) → pick b Solvable Not ≡ verdict_of c w e

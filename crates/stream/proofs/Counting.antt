@@ -24,8 +24,7 @@ module _ (s ch input : List ℕ) where
   records_choice h e = rw (le-ltb largest_n (n_of s) h, ne_eqb (length ch) 2 e)
 
   pub records-words : n_of s ≤ largest_n → length ch ≡ 2
-      → records s ch input ≡ tab (rounded_up (length input) (2 ^ n_of s))
-      (λ (k : ℕ). answer_record (n_of s) s (get_or ch 0 0) (get_or ch 1 0) (word_at (n_of s) input k))
+      → records s ch input ≡ tab (rounded_up (length input) (2 ^ n_of s)) (λ (k : ℕ). answer_record (n_of s) s (get_or ch 0 0) (get_or ch 1 0) (word_at (n_of s) input k))
   unfolding records
   records-words h e = rw (le-ltb largest_n (n_of s) h, eq-eqb (length ch) 2 e)
 
@@ -40,5 +39,4 @@ module _ (s ch input : List ℕ) where
 
       pub counted : length ch ≡ 2 → (size : ℕ) → size ≡ 2 ^ n → (k : ℕ) → k ≡ rounded_up (length input) size → k ≡ length (records s ch input)
       counted q size es k ek =
-          ek ∙ ap (rounded_up (length input)) (es ∙ ap (λ (j : ℕ). 2 ^ j) e)
-          ∙ sym (ap length (records-words (rw (← e) h) q) ∙ length-tab (rounded_up (length input) (2 ^ n_of s)) _)
+          ek ∙ ap (rounded_up (length input)) (es ∙ ap (λ (j : ℕ). 2 ^ j) e) ∙ sym (ap length (records-words (rw (← e) h) q) ∙ length-tab (rounded_up (length input) (2 ^ n_of s)) _)

@@ -24,8 +24,7 @@ use Rattle.meaning.proofs.Strips.{candidate_long, strips-long}
 use Rattle.meaning.proofs.Dimension.{dimension-is}
 use Rattle.meaning.proofs.Gap.{d_le_g}
 use Rattle.meaning.proofs.Refusals.{first-none, none_append, refused_untouched}
-use Rattle.meaning.specs.Forms.{Good}
-use Rattle.meaning.proofs.Forms.{good, form_parts}
+use Rattle.meaning.proofs.Forms.{Good, good, form_parts}
 use Rattle.stream.specs.Laying.{small, Small}
 
 -- a fact of what each row answers, and of what is given where none applies
@@ -38,8 +37,7 @@ module _ (P : Reply → Type 0) (out : List ℕ) (z : Reply) where
   by_rows [] h = h
   by_rows (t ∷ ts) (f, g) = go t.applies f (λ e. by_rows ts (g e))
     where
-      go : (b : Bool) → (b ≡ true → P (leaving out t.answer)) → (b ≡ false → P (first_of (leaving out) ts z))
-          → P (pick b (leaving out t.answer) (first_of (leaving out) ts z))
+      go : (b : Bool) → (b ≡ true → P (leaving out t.answer)) → (b ≡ false → P (first_of (leaving out) ts z)) → P (pick b (leaving out t.answer) (first_of (leaving out) ts z))
       go true p q = p refl
       go false p q = q refl
 
@@ -88,13 +86,13 @@ module _ (n : ℕ) (h : n ≤ largest_n) where
   unfolding largest_n
   size_low = omega (arith, pow_mono h)
 
-  unknowns-few : (s w : List ℕ) → unknowns n (rules n s) w < 65536
+  unknowns_few : (s w : List ℕ) → unknowns n (rules n s) w < 65536
   unfolding unknowns
-  unknowns-few s w = omega (arith, open_few (rules n s) (open_all n w), length-rules n s, size_low)
+  unknowns_few s w = omega (arith, open_few (rules n s) (open_all n w), length-rules n s, size_low)
 
-  equations-few : (s w : List ℕ) (r : ℕ) → (r ≡ 0) ⊎ ((r ≡ 6) ⊎ (r ≡ 11)) → equations n (rules n s) r w < 65536
+  equations_few : (s w : List ℕ) (r : ℕ) → (r ≡ 0) ⊎ ((r ≡ 6) ⊎ (r ≡ 11)) → equations n (rules n s) r w < 65536
   unfolding equations
-  equations-few s w r c = go c
+  equations_few s w r c = go c
     where
       l : ones (closed_frozen (rules n s) (open_all n w)) ≤ length (rules n s)
       l = closed_few (rules n s) (open_all n w)
@@ -107,23 +105,17 @@ module _ (n : ℕ) (h : n ≤ largest_n) where
   verdict-small : (s w out : List ℕ) (r : ℕ) → Good n s r → (cs : List (List Bool)) → (cs ≡ candidates n (rules n s) r w)
       → Small (verdict n (unknowns n (rules n s) w) (equations n (rules n s) r w) cs out).answer
   unfolding verdict small
-  verdict-small s w out r ok [] e = rw (lt-ltb _ 65536 (unknowns-few s w), lt-ltb _ 65536 (equations-few s w r ok.check))
-  verdict-small s w out r ok (x ∷ []) e = rw (lt-ltb _ 65536 (unknowns-few s w), lt-ltb _ 65536 (equations-few s w r ok.check))
+  verdict-small s w out r ok [] e = rw (lt-ltb _ 65536 (unknowns_few s w), lt-ltb _ 65536 (equations_few s w r ok.check))
+  verdict-small s w out r ok (x ∷ []) e = rw (lt-ltb _ 65536 (unknowns_few s w), lt-ltb _ 65536 (equations_few s w r ok.check))
   verdict-small s w out r ok (x ∷ y ∷ cs) e =
-      let l : length (candidates n (rules n s) r w) ≡ 2 ^ dimension (candidates n (rules n s) r w) =
-      dimension-is n (rules n s) r w (omega (arith, ap length (sym e))) in
+      let l : length (candidates n (rules n s) r w) ≡ 2 ^ dimension (candidates n (rules n s) r w) = dimension-is n (rules n s) r w (omega (arith, ap length (sym e))) in
       let d : dimension (x ∷ y ∷ cs) ≤ unknowns n (rules n s) w = rw e (d_le_g n (rules n s) r w _ (length-rules n s) ok.ordered l) in
-      rw (
-        lt-ltb _ 65536 (unknowns-few s w),
-        lt-ltb _ 65536 (equations-few s w r ok.check),
-        lt-ltb (dimension (x ∷ y ∷ cs)) 65536 (omega (arith, d, unknowns-few s w)),
-      )
+      rw (lt-ltb _ 65536 (unknowns_few s w), lt-ltb _ 65536 (equations_few s w r ok.check), lt-ltb (dimension (x ∷ y ∷ cs)) 65536 (omega (arith, d, unknowns_few s w)))
 
   pub fits-two-bytes : (s : List ℕ) (r c : ℕ) (w out : List ℕ) → Small (decoding n s r c w out).answer
   unfolding decoding decodeRefusals formRefusals sheetRefusals wordRefusals small
   fits-two-bytes s r c w out =
-      by_rows (λ (t : Reply). Small t.answer) out (verdict n (unknowns n (rules n s) w) (equations n (rules n s) r w) (candidates n (rules n s) r w) out)
-      (decodeRefusals n s r c w (length out)) (
+      by_rows (λ (t : Reply). Small t.answer) out (verdict n (unknowns n (rules n s) w) (equations n (rules n s) r w) (candidates n (rules n s) r w) out) (decodeRefusals n s r c w (length out)) (
         λ _. refl,
         λ a. (
           λ e. rw (lt-ltb (bad_record n s) 65536 (omega (arith, ltb-true (bad_record n s) (2 ^ n) e, size_low))),
@@ -134,14 +126,13 @@ module _ (n : ℕ) (h : n ≤ largest_n) where
               λ d. (
                 λ _. refl,
                 λ l. (
-                  λ e. rw (lt-ltb (first_place (ltb 2) w) 65536
-                      (omega (arith, ltb-true (first_place (ltb 2) w) (length w) e, eqb-true (length w) (2 ^ n) (not-false _ l), size_low))),
+                  λ e. rw (lt-ltb (first_place (ltb 2) w) 65536 (omega (arith, ltb-true (first_place (ltb 2) w) (length w) e, eqb-true (length w) (2 ^ n) (not-false _ l), size_low))),
                   λ _. (
                     λ _. refl,
                     λ _. (
                       λ _. refl,
                       λ _. (
-                        λ _. rw (lt-ltb (unknowns n (rules n s) w) 65536 (unknowns-few s w)),
+                        λ _. rw (lt-ltb (unknowns n (rules n s) w) 65536 (unknowns_few s w)),
                         λ _. verdict-small s w out r (good n s r (rw (a, b, k, d))) (candidates n (rules n s) r w) refl,
                       ),
                     ),

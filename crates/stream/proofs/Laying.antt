@@ -32,8 +32,7 @@ take_blank (suc a) zero h = absurd (omega arith)
 take_blank (suc a) (suc b) h = ap {B = List ℕ} (λ t. 255 ∷ t) (take_blank a b (omega arith))
 
 -- the start of three blank strips
-pub part_blank : (k size : ℕ) (f : List ℕ) → f ≡ replicate (3 * strip_width) 255
-    → size ≤ strip_width → size ≡ k → take (3 * size - 0) (drop 0 f) ≡ replicate (3 * k) 255
+pub part_blank : (k size : ℕ) (f : List ℕ) → f ≡ replicate (3 * strip_width) 255 → size ≤ strip_width → size ≡ k → take (3 * size - 0) (drop 0 f) ≡ replicate (3 * k) 255
 part_blank k size f e low q =
     let m : 3 * size - 0 ≡ 3 * k = omega arith in
     ap₂ {C = List ℕ} take m e ∙ take_blank (3 * k) (3 * strip_width) (omega arith)
@@ -52,8 +51,7 @@ module _ (W : ℕ) (x y z : List ℕ) (lx : length x ≡ W) (ly : length y ≡ W
   pub laid-two : put_mid W (2 * W - W) (x ++ replicate (2 * W) 255) y ≡ (x ++ y) ++ replicate W 255
   laid-two =
       let e : 2 * W - (2 * W - W) ≡ W = omega arith in
-      put-behind x (replicate (2 * W) 255) y W (2 * W - W) lx
-      ∙ ap (λ (t : List ℕ). x ++ (y ++ t)) (drop_blank (2 * W - W) (2 * W) ∙ ap (λ (k : ℕ). replicate k 255) e)
+      put-behind x (replicate (2 * W) 255) y W (2 * W - W) lx ∙ ap (λ (t : List ℕ). x ++ (y ++ t)) (drop_blank (2 * W - W) (2 * W) ∙ ap (λ (k : ℕ). replicate k 255) e)
       ∙ sym (append_assoc x y (replicate W 255))
 
   two-long : length (x ++ y) ≡ 2 * W
@@ -89,33 +87,26 @@ module _ (size : ℕ) (b S : List ℕ) (lb : length b ≡ 3 * size) (low : size 
   pub blank_long : length S ≡ 3 * W
   blank_long = ap length eS ∙ length-replicate (3 * W) 255
 
-  pub laid-is : (x y z : List ℕ) → x ≡ over (take (size - 0) (drop 0 b)) (take (W - 0) (drop 0 S))
-      → y ≡ over (take (2 * size - size) (drop size b)) (take (2 * W - W) (drop W (x ++ post_of 0 (W - 0) S)))
+  pub laid-is : (x y z : List ℕ) → x ≡ over (take (size - 0) (drop 0 b)) (take (W - 0) (drop 0 S)) → y ≡ over (take (2 * size - size) (drop size b)) (take (2 * W - W) (drop W (x ++ post_of 0 (W - 0) S)))
       → z ≡ over (take (3 * size - 2 * size) (drop (2 * size) b)) (take (3 * W - 2 * W) (drop (2 * W) (put_mid W (2 * W - W) (x ++ post_of 0 (W - 0) S) y)))
       → put_mid (2 * W) (3 * W - 2 * W) (put_mid W (2 * W - W) (x ++ post_of 0 (W - 0) S) y) z ≡ laid size b
   unfolding laid
   laid-is x y z ex ey ez =
       let s₁ : take (size - 0) (drop 0 b) ≡ take size b = ap (λ (k : ℕ). take k b) (let e : size - 0 ≡ size = omega arith in e) in
-      let s₂ : take (2 * size - size) (drop size b) ≡ take size (drop size b) =
-      ap (λ (k : ℕ). take k (drop size b)) (let e : 2 * size - size ≡ size = omega arith in e) in
-      let s₃ : take (3 * size - 2 * size) (drop (2 * size) b) ≡ drop (2 * size) b =
-      take_all (3 * size - 2 * size) (drop (2 * size) b) (simp length-drop (omega arith)) in
+      let s₂ : take (2 * size - size) (drop size b) ≡ take size (drop size b) = ap (λ (k : ℕ). take k (drop size b)) (let e : 2 * size - size ≡ size = omega arith in e) in
+      let s₃ : take (3 * size - 2 * size) (drop (2 * size) b) ≡ drop (2 * size) b = take_all (3 * size - 2 * size) (drop (2 * size) b) (simp length-drop (omega arith)) in
       let l₁ : length (take size b) ≤ W = simp length-take (omega arith) in
       let l₂ : length (take size (drop size b)) ≤ W = simp length-take (omega arith) in
       let l₃ : length (drop (2 * size) b) ≤ W = simp length-drop (omega arith) in
-      let d₁ : take (W - 0) (drop 0 S) ≡ replicate W 255 =
-      ap (take (W - 0)) eS ∙ ap (λ (k : ℕ). take k (replicate (3 * W) 255)) (let e : W - 0 ≡ W = omega arith in e) ∙ take_blank W (3 * W) (omega arith) in
+      let d₁ : take (W - 0) (drop 0 S) ≡ replicate W 255 = ap (take (W - 0)) eS ∙ ap (λ (k : ℕ). take k (replicate (3 * W) 255)) (let e : W - 0 ≡ W = omega arith in e) ∙ take_blank W (3 * W) (omega arith) in
       let x' : x ≡ padded (take size b) = strip-is (take (size - 0) (drop 0 b)) _ x d₁ ex ∙ ap padded s₁ in
       let lx : length x ≡ W = ap length x' ∙ padded-long (take size b) l₁ in
       let one : x ++ post_of 0 (W - 0) S ≡ x ++ replicate (2 * W) 255 = ap (λ (t : List ℕ). x ++ post_of 0 (W - 0) t) eS ∙ laid_one W x x x lx lx lx in
-      let d₂ : take (2 * W - W) (drop W (x ++ post_of 0 (W - 0) S)) ≡ replicate W 255 =
-      ap (λ (t : List ℕ). take (2 * W - W) (drop W t)) one ∙ part-two W x x x lx lx lx in
+      let d₂ : take (2 * W - W) (drop W (x ++ post_of 0 (W - 0) S)) ≡ replicate W 255 = ap (λ (t : List ℕ). take (2 * W - W) (drop W t)) one ∙ part-two W x x x lx lx lx in
       let y' : y ≡ padded (take size (drop size b)) = strip-is (take (2 * size - size) (drop size b)) _ y d₂ ey ∙ ap padded s₂ in
       let ly : length y ≡ W = ap length y' ∙ padded-long (take size (drop size b)) l₂ in
-      let two : put_mid W (2 * W - W) (x ++ post_of 0 (W - 0) S) y ≡ (x ++ y) ++ replicate W 255 =
-      ap (λ (t : List ℕ). put_mid W (2 * W - W) t y) one ∙ laid-two W x y y lx ly ly in
-      let d₃ : take (3 * W - 2 * W) (drop (2 * W) (put_mid W (2 * W - W) (x ++ post_of 0 (W - 0) S) y)) ≡ replicate W 255 =
-      ap (λ (t : List ℕ). take (3 * W - 2 * W) (drop (2 * W) t)) two ∙ part-three W x y y lx ly ly in
+      let two : put_mid W (2 * W - W) (x ++ post_of 0 (W - 0) S) y ≡ (x ++ y) ++ replicate W 255 = ap (λ (t : List ℕ). put_mid W (2 * W - W) t y) one ∙ laid-two W x y y lx ly ly in
+      let d₃ : take (3 * W - 2 * W) (drop (2 * W) (put_mid W (2 * W - W) (x ++ post_of 0 (W - 0) S) y)) ≡ replicate W 255 = ap (λ (t : List ℕ). take (3 * W - 2 * W) (drop (2 * W) t)) two ∙ part-three W x y y lx ly ly in
       let z' : z ≡ padded (drop (2 * size) b) = strip-is (take (3 * size - 2 * size) (drop (2 * size) b)) _ z d₃ ez ∙ ap padded s₃ in
       let lz : length z ≡ W = ap length z' ∙ padded-long (drop (2 * size) b) l₃ in
       ap (λ (t : List ℕ). put_mid (2 * W) (3 * W - 2 * W) t z) two ∙ laid-all W x y z lx ly lz ∙ ap₂ {C = List ℕ} ◌++◌ (ap₂ {C = List ℕ} ◌++◌ x' y') z'
@@ -172,7 +163,5 @@ module _ (n : ℕ) (s : List ℕ) (r c : ℕ) (w f b : List ℕ) (a : Answer) (p
       let p₂ : List ℕ = padded (take (2 ^ n) (drop (2 ^ n) b)) in
       let p₃ : List ℕ = padded (drop (2 * 2 ^ n) b) in
       let q : leaving b a ≡ decoding n s r c w (replicate (3 * 2 ^ n) 255) = p ∙ ap (decoding n s r c w) e in
-      ap (λ (j : ℕ). header a ++ laid j b) ek ∙ sym (append_assoc (header a) (p₁ ++ p₂) p₃)
-      ∙ ap (λ (t : List ℕ). t ++ p₃) (sym (append_assoc (header a) p₁ p₂))
-      ∙ ap (λ (t : Reply). header t.answer ++ padded (take (2 ^ n) t.bytes)
-      ++ padded (take (2 ^ n) (drop (2 ^ n) t.bytes)) ++ padded (drop (2 * 2 ^ n) t.bytes)) q
+      ap (λ (j : ℕ). header a ++ laid j b) ek ∙ sym (append_assoc (header a) (p₁ ++ p₂) p₃) ∙ ap (λ (t : List ℕ). t ++ p₃) (sym (append_assoc (header a) p₁ p₂))
+      ∙ ap (λ (t : Reply). header t.answer ++ padded (take (2 ^ n) t.bytes) ++ padded (take (2 ^ n) (drop (2 ^ n) t.bytes)) ++ padded (drop (2 * 2 ^ n) t.bytes)) q

@@ -1,6 +1,6 @@
 -- Fitting: what decoding answers fits a record. Laying: a record in the parts that the code writes.
 -- ReadOff: a record read back.
--- Counting: how many records an input gets. Streaming: the records one after the other.
+-- Counting: the n of a sheet, and how many records an input gets. Streaming: the records one after the other.
 -- Untouched: the record of a word that decoding refuses or calls inconsistent.
 -- Promise: what follows from the promise: record k is word k's alone; cutting at a multiple of N.
 pub mod Fitting

@@ -42,7 +42,7 @@ use Rattle.meaning.proofs.Saying.{said}
 use Rattle.meaning.proofs.Cutting.{WholePieces, pieces_cut, cut_list, cut_flat}
 use Rattle.planning.specs.Filled.{filled_in}
 use Rattle.planning.specs.MoreKnown.{code_of, formed, MoreKnown}
-use Rattle.planning.proofs.Known.{more-known}
+use Rattle.planning.proofs.Known.{more_known}
 use Rattle.planning.proofs.Ceiling.{lowered, raised}
 use Rattle.stream.specs.ReadOff.{numbers_in, strips_in}
 use Rattle.stream.proofs.ReadOff.{numbers_off, strips_off}
@@ -50,8 +50,7 @@ use Rattle.stream.proofs.Untouched.{untouched_record}
 use Rattle.stream.proofs.Counting.{records-words}
 use Rattle.stream.proofs.Streaming.{record_at, records-wide}
 
-pub stream_determined : (s ch input out x x' : List ℕ) (a a' : Answer)
-    → reply x a ≡ streaming s ch input out → reply x' a' ≡ streaming s ch input out → (a ≡ a') × (x ≡ x')
+pub stream_determined : (s ch input out x x' : List ℕ) (a a' : Answer) → reply x a ≡ streaming s ch input out → reply x' a' ≡ streaming s ch input out → (a ≡ a') × (x ≡ x')
 stream_determined s ch input out x x' a a' p q = reply_determined a a' x x' (streaming s ch input out) p q
 
 positive : (n : ℕ) → 0 < 2 ^ n
@@ -68,8 +67,7 @@ module _ (s ch : List ℕ) (h : n_of s ≤ largest_n) (two : length ch ≡ 2) wh
   answer_to w = answer_record n s (get_or ch 0 0) (get_or ch 1 0) w
 
   pub record_count_lem : (input : List ℕ) → length (records s ch input) ≡ rounded_up (length input) (2 ^ n)
-  record_count_lem input =
-      ap length (records-words s ch input h two) ∙ length-tab (rounded_up (length input) (2 ^ n)) (record_at n s (get_or ch 0 0) (get_or ch 1 0) input)
+  record_count_lem input = ap length (records-words s ch input h two) ∙ length-tab (rounded_up (length input) (2 ^ n)) (record_at n s (get_or ch 0 0) (get_or ch 1 0) input)
 
   -- two parts, the first of whole words
   pub records_cut : (a b : List ℕ) (m : ℕ) → length a ≡ m * 2 ^ n → records s ch (a ++ b) ≡ records s ch a ++ records s ch b
@@ -80,28 +78,23 @@ module _ (s ch : List ℕ) (h : n_of s ≤ largest_n) (two : length ch ≡ 2) wh
   -- ---- any result that is done
 
   -- the bytes of the records, and later bytes as found
-  pub written : (input out x : List ℕ) → reply x Done ≡ streaming s ch input out
-      → x ≡ flatten (records s ch input) ++ drop (length (flatten (records s ch input))) out
+  pub written : (input out x : List ℕ) → reply x Done ≡ streaming s ch input out → x ≡ flatten (records s ch input) ++ drop (length (flatten (records s ch input))) out
   unfolding streaming
   written input out x p = go (ltb (length out) (length (records s ch input) * answer_bytes)) p
     where
-      go : (b : Bool) → reply x Done ≡ pick b (leaving out ShortOutput) (writing (flatten (records s ch input)) out Done)
-          → x ≡ flatten (records s ch input) ++ drop (length (flatten (records s ch input))) out
+      go : (b : Bool) → reply x Done ≡ pick b (leaving out ShortOutput) (writing (flatten (records s ch input)) out Done) → x ≡ flatten (records s ch input) ++ drop (length (flatten (records s ch input))) out
       go true q = absurd (true≢false (ap (λ (t : Reply). isDone t.answer) q))
       go false q = ap (λ (t : Reply). t.bytes) q
 
-  pub record_at_lem : (input out x : List ℕ) → reply x Done ≡ streaming s ch input out → (k : ℕ)
-      → k < rounded_up (length input) (2 ^ n) → row answer_bytes x k ≡ answer_to (word_at n input k)
+  pub record_at_lem : (input out x : List ℕ) → reply x Done ≡ streaming s ch input out → (k : ℕ) → k < rounded_up (length input) (2 ^ n) → row answer_bytes x k ≡ answer_to (word_at n input k)
   record_at_lem input out x p k l =
       let lk : k < length (records s ch input) = omega (arith, l, record_count_lem input) in
       ap (λ (t : List ℕ). row answer_bytes t k) (written input out x p) ∙ record_of_lem answer_bytes (records s ch input) _ (records-wide s ch input) k lk
-      ∙ ap (λ (t : List (List ℕ)). get_or t k []) (records-words s ch input h two)
-      ∙ tab-at (rounded_up (length input) (2 ^ n)) (record_at n s (get_or ch 0 0) (get_or ch 1 0) input) k [] l
+      ∙ ap (λ (t : List (List ℕ)). get_or t k []) (records-words s ch input h two) ∙ tab-at (rounded_up (length input) (2 ^ n)) (record_at n s (get_or ch 0 0) (get_or ch 1 0) input) k [] l
 
   -- two inputs with the same word k have the same record there
   pub word_alone : (input out x input' out' x' : List ℕ) → reply x Done ≡ streaming s ch input out → reply x' Done ≡ streaming s ch input' out'
-      → (k : ℕ) → k < rounded_up (length input) (2 ^ n) → k < rounded_up (length input') (2 ^ n)
-      → word_at n input k ≡ word_at n input' k → row answer_bytes x k ≡ row answer_bytes x' k
+      → (k : ℕ) → k < rounded_up (length input) (2 ^ n) → k < rounded_up (length input') (2 ^ n) → word_at n input k ≡ word_at n input' k → row answer_bytes x k ≡ row answer_bytes x' k
   word_alone input out x input' out' x' p p' k l l' e = record_at_lem input out x p k l ∙ ap answer_to e ∙ sym (record_at_lem input' out' x' p' k l')
 
   -- ---- record k, read back
@@ -111,8 +104,7 @@ module _ (s ch : List ℕ) (h : n_of s ≤ largest_n) (two : length ch ≡ 2) wh
   decoded_to w = decoding n s (get_or ch 0 0) (get_or ch 1 0) w (replicate (3 * 2 ^ n) 255)
 
   pub record_read : (input out x : List ℕ) → reply x Done ≡ streaming s ch input out → (k : ℕ) → k < rounded_up (length input) (2 ^ n)
-      → (numbers_in (row answer_bytes x k) ≡ numbersOf (decoded_to (word_at n input k)).answer)
-      × (strips_in n (row answer_bytes x k) ≡ (decoded_to (word_at n input k)).bytes)
+      → (numbers_in (row answer_bytes x k) ≡ numbersOf (decoded_to (word_at n input k)).answer) × (strips_in n (row answer_bytes x k) ≡ (decoded_to (word_at n input k)).bytes)
   record_read input out x p k l =
       let e = record_at_lem input out x p k l in
       let w : List ℕ = word_at n input k in
@@ -120,8 +112,7 @@ module _ (s ch : List ℕ) (h : n_of s ≤ largest_n) (two : length ch ≡ 2) wh
 
   -- what 01 says, sentence by sentence, of record k and the strips' 255
   pub record_said : (input out x : List ℕ) → reply x Done ≡ streaming s ch input out → (k : ℕ) → k < rounded_up (length input) (2 ^ n)
-      → Said n s (get_or ch 0 0) (get_or ch 1 0) (word_at n input k) (replicate (3 * 2 ^ n) 255)
-      (numbers_in (row answer_bytes x k)) (strips_in n (row answer_bytes x k))
+      → Said n s (get_or ch 0 0) (get_or ch 1 0) (word_at n input k) (replicate (3 * 2 ^ n) 255) (numbers_in (row answer_bytes x k)) (strips_in n (row answer_bytes x k))
   record_said input out x p k l =
       let (v, b) = record_read input out x p k l in
       rw (v, b) (said n s (get_or ch 0 0) (get_or ch 1 0) (word_at n input k) (replicate (3 * 2 ^ n) 255))
@@ -130,13 +121,11 @@ module _ (s ch : List ℕ) (h : n_of s ≤ largest_n) (two : length ch ≡ 2) wh
   pub record_more_read : (input out x input' out' x' : List ℕ) → reply x Done ≡ streaming s ch input out → reply x' Done ≡ streaming s ch input' out'
       → (k : ℕ) → k < rounded_up (length input) (2 ^ n) → k < rounded_up (length input') (2 ^ n) → filled_in (word_at n input k) (word_at n input' k) ≡ true
       → formed (numbers_in (row answer_bytes x k)) ≡ true → formed (numbers_in (row answer_bytes x' k)) ≡ true
-      → MoreKnown n (word_at n input k) (word_at n input' k) (numbers_in (row answer_bytes x k))
-      (strips_in n (row answer_bytes x k)) (numbers_in (row answer_bytes x' k)) (strips_in n (row answer_bytes x' k))
+      → MoreKnown n (word_at n input k) (word_at n input' k) (numbers_in (row answer_bytes x k)) (strips_in n (row answer_bytes x k)) (numbers_in (row answer_bytes x' k)) (strips_in n (row answer_bytes x' k))
   record_more_read input out x input' out' x' p p' k l l' f ok ok' =
       let (v, b) = record_read input out x p k l in
       let (v', b') = record_read input' out' x' p' k l' in
-      rw (v, b, v', b') (more-known n s (get_or ch 0 0) (get_or ch 1 0) (word_at n input k) (word_at n input' k) f
-      (replicate (3 * 2 ^ n) 255) (replicate (3 * 2 ^ n) 255) (rw v at ok) (rw v' at ok'))
+      rw (v, b, v', b') (more_known n s (get_or ch 0 0) (get_or ch 1 0) (word_at n input k) (word_at n input' k) f (replicate (3 * 2 ^ n) 255) (replicate (3 * 2 ^ n) 255) (rw v at ok) (rw v' at ok'))
 
   -- the bytes of the records of an input
   abbrev pub record_bytes_of : List ℕ → List ℕ → List ℕ
@@ -144,8 +133,7 @@ module _ (s ch : List ℕ) (h : n_of s ≤ largest_n) (two : length ch ≡ 2) wh
 
   records-bytes : (input out x : List ℕ) → reply x Done ≡ streaming s ch input out → record_bytes_of input x ≡ flatten (records s ch input)
   records-bytes input out x p =
-      let l : length (flatten (records s ch input)) ≡ rounded_up (length input) (2 ^ n) * answer_bytes =
-      length-flatten answer_bytes (records s ch input) (records-wide s ch input) ∙ ap (λ (k : ℕ). k * answer_bytes) (record_count_lem input) in
+      let l : length (flatten (records s ch input)) ≡ rounded_up (length input) (2 ^ n) * answer_bytes = length-flatten answer_bytes (records s ch input) (records-wide s ch input) ∙ ap (λ (k : ℕ). k * answer_bytes) (record_count_lem input) in
       ap (record_bytes_of input) (written input out x p) ∙ take_at (flatten (records s ch input)) _ _ l
 
   -- an input cut behind m whole words: the parts, answered one after the other, give the same bytes
@@ -160,8 +148,7 @@ module _ (s ch : List ℕ) (h : n_of s ≤ largest_n) (two : length ch ≡ 2) wh
 
 module _ (s ch ch' : List ℕ) (h : n_of s ≤ largest_n) (two : length ch ≡ 2) (two' : length ch' ≡ 2)
     (same : get_or ch 0 0 ≡ get_or ch' 0 0) (up : get_or ch 1 0 ≤ get_or ch' 1 0) (limit : get_or ch' 1 0 ≤ largest_ceiling)
-    (input out x out' x' : List ℕ) (p : reply x Done ≡ streaming s ch input out)
-    (p' : reply x' Done ≡ streaming s ch' input out') (k : ℕ) (l : k < rounded_up (length input) (2 ^ n_of s)) where
+    (input out x out' x' : List ℕ) (p : reply x Done ≡ streaming s ch input out) (p' : reply x' Done ≡ streaming s ch' input out') (k : ℕ) (l : k < rounded_up (length input) (2 ^ n_of s)) where
   abbrev size : ℕ
   size = n_of s
 
@@ -174,9 +161,7 @@ module _ (s ch ch' : List ℕ) (h : n_of s ≤ largest_n) (two : length ch ≡ 2
 
   -- the record that a reply is laid into
   abbrev laid_out : Reply → List ℕ
-  laid_out t =
-      header t.answer ++ padded (take (2 ^ size) t.bytes) ++ padded (take (2 ^ size) (drop (2 ^ size) t.bytes))
-      ++ padded (drop (2 * 2 ^ size) t.bytes)
+  laid_out t = header t.answer ++ padded (take (2 ^ size) t.bytes) ++ padded (take (2 ^ size) (drop (2 ^ size) t.bytes)) ++ padded (drop (2 * 2 ^ size) t.bytes)
 
   abbrev decoded_under : ℕ → Reply
   decoded_under c = decoding size s (get_or ch 0 0) c word (replicate (3 * 2 ^ size) 255)
@@ -184,8 +169,7 @@ module _ (s ch ch' : List ℕ) (h : n_of s ≤ largest_n) (two : length ch ≡ 2
   same-records : decoded_under (get_or ch 1 0) ≡ decoded_under (get_or ch' 1 0) → row answer_bytes x k ≡ row answer_bytes x' k
   unfolding answer_record
   same-records q =
-      record_at_lem s ch h two input out x p k l ∙ ap laid_out q ∙ ap (λ (r : ℕ). answer_record size s r (get_or ch' 1 0) word) same
-      ∙ sym (record_at_lem s ch' h two' input out' x' p' k l)
+      record_at_lem s ch h two input out x p k l ∙ ap laid_out q ∙ ap (λ (r : ℕ). answer_record size s r (get_or ch' 1 0) word) same ∙ sym (record_at_lem s ch' h two' input out' x' p' k l)
 
   pub record_lowered : (row answer_bytes x k ≡ row answer_bytes x' k) ⊎ ((row answer_bytes x k ≡ refused_record (TooMany g)) × (get_or ch 1 0 < g))
   record_lowered =
@@ -195,22 +179,19 @@ module _ (s ch ch' : List ℕ) (h : n_of s ≤ largest_n) (two : length ch ≡ 2
 
   pub record_raised : (code_of (numbers_in (row answer_bytes x k)) ≡ 18 → ⊥) → row answer_bytes x' k ≡ row answer_bytes x k
   record_raised c =
-      sym (same-records (sym (raised size s (get_or ch 0 0) (get_or ch 1 0) (get_or ch' 1 0) word
-      (replicate (3 * 2 ^ size) 255) up limit (λ q. c (ap code_of (record_read s ch h two input out x p k l).0 ∙ q)))))
+      sym (same-records (sym (raised size s (get_or ch 0 0) (get_or ch 1 0) (get_or ch' 1 0) word (replicate (3 * 2 ^ size) 255) up limit (λ q. c (ap code_of (record_read s ch h two input out x p k l).0 ∙ q)))))
 
 -- ---- a result that is not done
 
 -- too short an output is refused, and nothing is touched
-pub short_untouched : (s ch input out x : List ℕ) (a : Answer) → reply x a ≡ streaming s ch input out
-    → length out < length (records s ch input) * answer_bytes → (a ≡ ShortOutput) × (x ≡ out)
+pub short_untouched : (s ch input out x : List ℕ) (a : Answer) → reply x a ≡ streaming s ch input out → length out < length (records s ch input) * answer_bytes → (a ≡ ShortOutput) × (x ≡ out)
 unfolding streaming
 short_untouched s ch input out x a p l =
     let q : reply x a ≡ leaving out ShortOutput = p ∙ rw (lt-ltb (length out) (length (records s ch input) * answer_bytes) l) in
     (ap (λ (t : Reply). t.answer) q, ap (λ (t : Reply). t.bytes) q)
 
 -- and else it is done
-pub room-done : (s ch input out x : List ℕ) (a : Answer) → reply x a ≡ streaming s ch input out
-    → length (records s ch input) * answer_bytes ≤ length out → a ≡ Done
+pub room-done : (s ch input out x : List ℕ) (a : Answer) → reply x a ≡ streaming s ch input out → length (records s ch input) * answer_bytes ≤ length out → a ≡ Done
 unfolding streaming
 room-done s ch input out x a p l = ap (λ (t : Reply). t.answer) p ∙ rw (le-ltb (length out) (length (records s ch input) * answer_bytes) l)
 
@@ -254,11 +235,9 @@ module _ (s ch : List ℕ) (h : n_of s ≤ largest_n) (two : length ch ≡ 2) wh
   left-bytes : (c : Call s ch) → left c ≡ flatten (records s ch c.input)
   left-bytes c =
       let R : List (List ℕ) = records s ch c.input in
-      ap (take (length R * answer_bytes)) (room-written s ch c.input c.found c.after c.answer c.promise c.roomy)
-      ∙ take_at (flatten R) _ _ (length-flatten answer_bytes R (records-wide s ch c.input))
+      ap (take (length R * answer_bytes)) (room-written s ch c.input c.found c.after c.answer c.promise c.roomy) ∙ take_at (flatten R) _ _ (length-flatten answer_bytes R (records-wide s ch c.input))
 
-  all_left : (calls : List (Call s ch)) → flatten (map (λ (a : List ℕ). flatten (records s ch a)) (map (λ (c : Call s ch). c.input) calls))
-      ≡ flatten (map left calls)
+  all_left : (calls : List (Call s ch)) → flatten (map (λ (a : List ℕ). flatten (records s ch a)) (map (λ (c : Call s ch). c.input) calls)) ≡ flatten (map left calls)
   unfolding flatten
   all_left [] = refl
   all_left (c ∷ calls) = ap₂ {C = List ℕ} ◌++◌ (sym (left-bytes c)) (all_left calls)

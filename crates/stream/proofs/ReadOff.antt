@@ -32,16 +32,14 @@ five_read (a ∷ b ∷ c ∷ []) z l h = absurd (omega arith)
 five_read (a ∷ b ∷ c ∷ d ∷ []) z l h = absurd (omega arith)
 five_read (a ∷ b ∷ c ∷ d ∷ e ∷ []) z l h =
     let v : List ℕ = a ∷ b ∷ c ∷ d ∷ e ∷ [] in
-    let back : (i : ℕ) → i < 5 → get_or v i 0 % 256 + 256 * (get_or v i 0 / 256 % 256) ≡ get_or v i 0 =
-    λ i k. sym (two_bytes_lem (get_or v i 0) (ltb-true (get_or v i 0) 65536 (all-at (λ (x : ℕ). ltb x 65536) 0 v h i k))) in
+    let back : (i : ℕ) → i < 5 → get_or v i 0 % 256 + 256 * (get_or v i 0 / 256 % 256) ≡ get_or v i 0 = λ i k. sym (two_bytes_lem (get_or v i 0) (ltb-true (get_or v i 0) 65536 (all-at (λ (x : ℕ). ltb x 65536) 0 v h i k))) in
     ap₂ {C = List ℕ} ◌∷◌ (back 0 (omega arith)) (ap₂ {C = List ℕ} ◌∷◌ (back 1 (omega arith)) (ap₂ {C = List ℕ} ◌∷◌ (back 2 (omega arith))
     (ap₂ {C = List ℕ} ◌∷◌ (back 3 (omega arith)) (ap {B = List ℕ} (λ (x : ℕ). x ∷ []) (back 4 (omega arith))))))
 five_read (a ∷ b ∷ c ∷ d ∷ e ∷ f ∷ v) z l h = absurd (omega arith)
 
 -- whatever stands behind them
 numbers_read : (a : Answer) (z : List ℕ) → all (λ (x : ℕ). ltb x 65536) (numbersOf a) ≡ true → numbers_in (header a ++ z) ≡ numbersOf a
-numbers_read a z h =
-    ap numbers_in (append_assoc (flatten (map two_bytes (numbersOf a))) (replicate (head_bytes - 10) 0) z) ∙ five_read (numbersOf a) _ (numbers_five a) h
+numbers_read a z h = ap numbers_in (append_assoc (flatten (map two_bytes (numbersOf a))) (replicate (head_bytes - 10) 0) z) ∙ five_read (numbersOf a) _ (numbers_five a) h
 
 -- ---- the strips
 
@@ -59,16 +57,13 @@ module _ (k : ℕ) (h x y z : List ℕ) (lh : length h ≡ head_bytes) (lx : len
 
   first_off : take k (drop (head_bytes + 0 * strip_width) laid) ≡ x
   first_off =
-      let e : laid ≡ h ++ (padded x ++ (padded y ++ padded z)) =
-      append_assoc (h ++ padded x) (padded y) (padded z) ∙ append_assoc h (padded x) (padded y ++ padded z) in
-      ap (λ (l : List ℕ). take k (drop (head_bytes + 0 * strip_width) l)) e
-      ∙ ap (take k) (drop_at h _ (head_bytes + 0 * strip_width) (omega arith)) ∙ unpadded k x _ lx
+      let e : laid ≡ h ++ (padded x ++ (padded y ++ padded z)) = append_assoc (h ++ padded x) (padded y) (padded z) ∙ append_assoc h (padded x) (padded y ++ padded z) in
+      ap (λ (l : List ℕ). take k (drop (head_bytes + 0 * strip_width) l)) e ∙ ap (take k) (drop_at h _ (head_bytes + 0 * strip_width) (omega arith)) ∙ unpadded k x _ lx
 
   second_off : take k (drop (head_bytes + 1 * strip_width) laid) ≡ y
   second_off =
       let l : length (h ++ padded x) ≡ head_bytes + 1 * strip_width = length-append h (padded x) ∙ omega (arith, lh, wide x lx) in
-      ap (λ (l : List ℕ). take k (drop (head_bytes + 1 * strip_width) l)) (append_assoc (h ++ padded x) (padded y) (padded z))
-      ∙ ap (take k) (drop_at (h ++ padded x) _ (head_bytes + 1 * strip_width) l) ∙ unpadded k y _ ly
+      ap (λ (l : List ℕ). take k (drop (head_bytes + 1 * strip_width) l)) (append_assoc (h ++ padded x) (padded y) (padded z)) ∙ ap (take k) (drop_at (h ++ padded x) _ (head_bytes + 1 * strip_width) l) ∙ unpadded k y _ ly
 
   third_off : take k (drop (head_bytes + 2 * strip_width) laid) ≡ z
   third_off =

@@ -16,7 +16,7 @@ use Rattle.bits.specs.Vectors.{tab}
 use Rattle.bits.specs.Rows.{Wide}
 use Rattle.bits.proofs.Tests.{le_or_lt, eq_or_ne}
 use Rattle.bits.proofs.RowLaws.{length-flatten}
-use Rattle.bits.proofs.Records.{flatten-one, wide-tab}
+use Rattle.bits.proofs.Records.{flatten_one, wide-tab}
 use Rattle.meaning.specs.Limits.{largest_n, strip_width}
 use Rattle.meaning.specs.Answers.{Reply, leaving, decoding}
 use Rattle.meaning.specs.Stream.{header, answer_bytes, answer_record, refused_record, n_of, rounded_up, word_at, records, streaming}
@@ -41,8 +41,7 @@ record_long n s r c w h =
     let a : Reply = decoding n s r c w f in
     let l : length a.bytes ≡ 3 * 2 ^ n = keeps-length n s r c w f ∙ length-replicate (3 * 2 ^ n) 255 in
     ap length (sym (recorded n s r c w f a.bytes a.answer refl refl (2 ^ n) refl))
-    ∙ length-append (header a.answer) (laid (2 ^ n) a.bytes)
-    ∙ ap₂ ◌+◌ (header-long a.answer) (laid-long (2 ^ n) a.bytes l (word_fits n (2 ^ n) h refl))
+    ∙ length-append (header a.answer) (laid (2 ^ n) a.bytes) ∙ ap₂ ◌+◌ (header-long a.answer) (laid-long (2 ^ n) a.bytes l (word_fits n (2 ^ n) h refl))
 
 pub refused_long : (a : Answer) → length (refused_record a) ≡ answer_bytes
 unfolding refused_record answer_bytes
@@ -55,8 +54,7 @@ records-wide s ch input = go (le_or_lt (n_of s) largest_n) (eq_or_ne (length ch)
     go (inr h) e = rw (records_shape s ch input h) (refused_long BadShape, tt)
     go (inl h) (inr e) = rw (records_choice s ch input h e) (refused_long BadCheck, tt)
     go (inl h) (inl e) =
-        rw (records-words s ch input h e) (wide-tab answer_bytes (rounded_up (length input) (2 ^ n_of s))
-        (record_at (n_of s) s (get_or ch 0 0) (get_or ch 1 0) input) (λ i. record_long (n_of s) s (get_or ch 0 0) (get_or ch 1 0) (word_at (n_of s) input i) h))
+        rw (records-words s ch input h e) (wide-tab answer_bytes (rounded_up (length input) (2 ^ n_of s)) (record_at (n_of s) s (get_or ch 0 0) (get_or ch 1 0) input) (λ i. record_long (n_of s) s (get_or ch 0 0) (get_or ch 1 0) (word_at (n_of s) input i) h))
 
 -- ---- the call
 
@@ -74,26 +72,21 @@ module _ (s ch input out : List ℕ) (k : ℕ) (ek : k ≡ length (records s ch 
   pub room : k ≤ length out / answer_bytes → k * answer_bytes ≤ length out
   room h = (le-div_iff_mul-le answer-pos).0 h
 
-  pub streamed : (out' : List ℕ) → k ≤ length out / answer_bytes
-      → out' ≡ flatten (records s ch input) ++ drop (k * answer_bytes) out → leaving out' Done ≡ streaming s ch input out
+  pub streamed : (out' : List ℕ) → k ≤ length out / answer_bytes → out' ≡ flatten (records s ch input) ++ drop (k * answer_bytes) out → leaving out' Done ≡ streaming s ch input out
   unfolding streaming
   streamed out' h e =
       let l : length (records s ch input) * answer_bytes ≤ length out = rw (← ek) (room h) in
-      let m : k * answer_bytes ≡ length (flatten (records s ch input)) =
-      ap (λ (j : ℕ). j * answer_bytes) ek ∙ sym (length-flatten answer_bytes (records s ch input) (records-wide s ch input)) in
-      rw (le-ltb (length out) (length (records s ch input) * answer_bytes) l)
-      (ap (λ (t : List ℕ). leaving t Done) (e ∙ ap (λ (j : ℕ). flatten (records s ch input) ++ drop j out) m))
+      let m : k * answer_bytes ≡ length (flatten (records s ch input)) = ap (λ (j : ℕ). j * answer_bytes) ek ∙ sym (length-flatten answer_bytes (records s ch input) (records-wide s ch input)) in
+      rw (le-ltb (length out) (length (records s ch input) * answer_bytes) l) (ap (λ (t : List ℕ). leaving t Done) (e ∙ ap (λ (j : ℕ). flatten (records s ch input) ++ drop j out) m))
 
 -- ---- the records, case by case, for the n that the code finds
 
 module _ (s ch input out : List ℕ) (n : ℕ) (en : n ≡ n_of s) (k : ℕ) (ek : k ≡ length (records s ch input)) where
   -- one record alone, where there is room for it
-  alone : (x : List ℕ) (a : Answer) → records s ch input ≡ refused_record a ∷ [] → x ≡ refused_record a
-      → x ++ post_of 0 (answer_bytes - 0) out ≡ flatten (records s ch input) ++ drop (k * answer_bytes) out
+  alone : (x : List ℕ) (a : Answer) → records s ch input ≡ refused_record a ∷ [] → x ≡ refused_record a → x ++ post_of 0 (answer_bytes - 0) out ≡ flatten (records s ch input) ++ drop (k * answer_bytes) out
   alone x a e ex =
-      let j : answer_bytes - 0 ≡ k * answer_bytes =
-      (let q : answer_bytes - 0 ≡ 1 * answer_bytes = omega arith in q) ∙ ap (λ (i : ℕ). i * answer_bytes) (sym (ek ∙ ap length e)) in
-      ap₂ {C = List ℕ} (λ t i. t ++ drop i out) (ex ∙ sym (ap flatten e ∙ flatten-one (refused_record a))) j
+      let j : answer_bytes - 0 ≡ k * answer_bytes = (let q : answer_bytes - 0 ≡ 1 * answer_bytes = omega arith in q) ∙ ap (λ (i : ℕ). i * answer_bytes) (sym (ek ∙ ap length e)) in
+      ap₂ {C = List ℕ} (λ t i. t ++ drop i out) (ex ∙ sym (ap flatten e ∙ flatten_one (refused_record a))) j
 
   room_for_one : (a : Answer) → records s ch input ≡ refused_record a ∷ [] → k * answer_bytes ≤ length out → answer_bytes ≤ length out
   room_for_one a e h = let q : k * answer_bytes ≡ 1 * answer_bytes = ap (λ (i : ℕ). i * answer_bytes) (ek ∙ ap length e) in omega (arith, q)
@@ -105,8 +98,7 @@ module _ (s ch input out : List ℕ) (n : ℕ) (en : n ≡ n_of s) (k : ℕ) (ek
     pub shape_room : k * answer_bytes ≤ length out → answer_bytes ≤ length out
     shape_room = room_for_one BadShape shape
 
-    pub shape_alone : (x : List ℕ) → x ≡ refused_record BadShape
-        → x ++ post_of 0 (answer_bytes - 0) out ≡ flatten (records s ch input) ++ drop (k * answer_bytes) out
+    pub shape_alone : (x : List ℕ) → x ≡ refused_record BadShape → x ++ post_of 0 (answer_bytes - 0) out ≡ flatten (records s ch input) ++ drop (k * answer_bytes) out
     shape_alone x ex = alone x BadShape shape ex
 
   module _ (h : n ≤ largest_n) where
@@ -117,16 +109,14 @@ module _ (s ch input out : List ℕ) (n : ℕ) (en : n ≡ n_of s) (k : ℕ) (ek
       pub choice_room : k * answer_bytes ≤ length out → answer_bytes ≤ length out
       choice_room = room_for_one BadCheck choice
 
-      pub choice_alone : (x : List ℕ) → x ≡ refused_record BadCheck
-          → x ++ post_of 0 (answer_bytes - 0) out ≡ flatten (records s ch input) ++ drop (k * answer_bytes) out
+      pub choice_alone : (x : List ℕ) → x ≡ refused_record BadCheck → x ++ post_of 0 (answer_bytes - 0) out ≡ flatten (records s ch input) ++ drop (k * answer_bytes) out
       choice_alone x ex = alone x BadCheck choice ex
 
     module _ (q : length ch ≡ 2) where
       pub words_count : k ≡ rounded_up (length input) (2 ^ n)
       words_count = ek ∙ sym (counted s ch input n en h q (2 ^ n) refl (rounded_up (length input) (2 ^ n)) refl)
 
-      pub words-all : (x : List ℕ) → x ≡ flatten (tab k (record_at n s (get_or ch 0 0) (get_or ch 1 0) input)) ++ drop (k * answer_bytes) out
-          → x ≡ flatten (records s ch input) ++ drop (k * answer_bytes) out
+      pub words-all : (x : List ℕ) → x ≡ flatten (tab k (record_at n s (get_or ch 0 0) (get_or ch 1 0) input)) ++ drop (k * answer_bytes) out → x ≡ flatten (records s ch input) ++ drop (k * answer_bytes) out
       words-all x ex =
           let r : records s ch input ≡ tab k (record_at n s (get_or ch 0 0) (get_or ch 1 0) input) = records-words s ch input (rw (← en) h) q
           ∙ ap (λ (m : ℕ). tab (rounded_up (length input) (2 ^ m)) (record_at m s (get_or ch 0 0) (get_or ch 1 0) input)) (sym en)

@@ -5,19 +5,33 @@ ghost use mathlib.Core.List.{◌++◌, flatten};
 ghost use Rattle.bits.specs.Vectors.{tab};
 ghost use Rattle.meaning.specs.Limits.{largest_n};
 ghost use Rattle.meaning.specs.Answers.{reply};
-ghost use Rattle.meaning.specs.Stream.{answer_bytes, answer_record, rounded_up, word_at, records, streaming};
+ghost use Rattle.meaning.specs.Stream.{answer_bytes, answer_record, n_of, rounded_up, word_at, records, streaming};
 
 mod record;
 
 use answers::pieces;
 use meaning::{Answer, limits};
 
+// The n of a sheet of N = 2 to the n records, from its length; 10 where no n up to 9 has such a sheet.
+pub fn n_of(sheet: &[u8]) -> usize
+    ensures { result ≡ n_of sheet.now }
+{
+    let mut n = 0;
+    while n <= limits::LARGEST_N {
+        if sheet::recorded(n, sheet.len()) {
+            return n;
+        }
+        n += 1;
+    }
+    n
+}
+
 // The number of records that an input is answered with: one for each word, the cut-off last one too; one alone where the
 // sheet or the choice has a wrong length.
 pub fn records(sheet: &[u8], choice: &[u8], input: &[u8]) -> usize
     ensures { result ≡ length (records sheet.now choice.now input.now) }
 {
-    let n = sheet::n_of(sheet);
+    let n = n_of(sheet);
     if limits::LARGEST_N < n {
         return 1;
     }
@@ -30,8 +44,7 @@ pub fn records(sheet: &[u8], choice: &[u8], input: &[u8]) -> usize
 // Writes the records of k words, one after the other.
 fn words(n: usize, sheet: &[u8], r: usize, ceiling: usize, input: &[u8], k: usize, out: &mut [u8])
     requires { (n ≤ largest_n) × (k ≡ rounded_up (length input.now) (2 ^ n)) × (k * answer_bytes ≤ length out.old) }
-    ensures { out.new ≡ flatten (tab k (λ (i : ℕ). answer_record n sheet.now r ceiling (word_at n input.now i)))
-        ++ drop (k * answer_bytes) out.old }
+    ensures { out.new ≡ flatten (tab k (λ (i : ℕ). answer_record n sheet.now r ceiling (word_at n input.now i))) ++ drop (k * answer_bytes) out.old }
 {
     let size = sheet::size(n);
     let mut i = 0;
@@ -54,10 +67,9 @@ fn words(n: usize, sheet: &[u8], r: usize, ceiling: usize, input: &[u8], k: usiz
 // Writes all records, where there is room for them.
 fn write(sheet: &[u8], choice: &[u8], input: &[u8], k: usize, out: &mut [u8])
     requires { (k ≡ length (records sheet.now choice.now input.now)) × (k * answer_bytes ≤ length out.old) }
-    ensures { out.new ≡ flatten (records sheet.now choice.now input.now)
-        ++ drop (k * answer_bytes) out.old }
+    ensures { out.new ≡ flatten (records sheet.now choice.now input.now) ++ drop (k * answer_bytes) out.old }
 {
-    let n = sheet::n_of(sheet);
+    let n = n_of(sheet);
     if limits::LARGEST_N < n {
         record::refuse(Answer::BadShape, &mut out[0..limits::ANSWER]);
     } else if choice.len() != 2 {

@@ -57,8 +57,7 @@ fn answer_in(
     strips: &mut [u8],
     out: &mut [u8],
 )
-    requires { (n ≤ largest_n) × (found.old ≡ replicate (3 * 2 ^ n) 255)
-        × (strips.old ≡ replicate (3 * strip_width) 255) × (length out.old ≡ answer_bytes) }
+    requires { (n ≤ largest_n) × (found.old ≡ replicate (3 * 2 ^ n) 255) × (strips.old ≡ replicate (3 * strip_width) 255) × (length out.old ≡ answer_bytes) }
     ensures { out.new ≡ answer_record n sheet.now r ceiling word.now }
 {
     let a = decoder::decode(n, sheet, r, ceiling, word, found);

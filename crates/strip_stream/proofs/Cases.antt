@@ -72,18 +72,11 @@ module _ (s ch lost input : List ℕ) where
   module _ (h : n_of s ≤ largest_n) where
     pub alone_choice : (length ch ≡ 2 → ⊥) → Alone s ch lost input BadCheck
     unfolding headers parts record_count part_count
-    alone_choice e =
-        record {
-          headed = case_choice s ch _ _ _ h e;
-          parted = case_choice s ch _ _ _ h e;
-          one = case_choice s ch _ _ _ h e;
-          none = case_choice s ch _ _ _ h e;
-        }
+    alone_choice e = record { headed = case_choice s ch _ _ _ h e; parted = case_choice s ch _ _ _ h e; one = case_choice s ch _ _ _ h e; none = case_choice s ch _ _ _ h e }
 
     pub right : length ch ≡ 2 → Right s ch lost input
     unfolding headers parts record_count part_count
-    right e =
-        record { headed = case_right s ch _ _ _ h e; parted = case_right s ch _ _ _ h e; many = case_right s ch _ _ _ h e; each = case_right s ch _ _ _ h e }
+    right e = record { headed = case_right s ch _ _ _ h e; parted = case_right s ch _ _ _ h e; many = case_right s ch _ _ _ h e; each = case_right s ch _ _ _ h e }
 
 -- how many, for the n that the code finds; `alone` where a length is wrong
 module _ (s ch input : List ℕ) (alone n : ℕ) (en : n ≡ n_of s) where
@@ -117,8 +110,7 @@ module _ (s ch lost input : List ℕ) where
   unfolding headers
   headers-wide =
       case_all s ch _ _ _ (Wide head_bytes) (header-long BadShape, tt) (header-long BadCheck, tt)
-      (wide-tab head_bytes (strip_count s input) (λ (k : ℕ). header (reply_at s ch lost input k).answer)
-      (λ k. header-long (reply_at s ch lost input k).answer))
+      (wide-tab head_bytes (strip_count s input) (λ (k : ℕ). header (reply_at s ch lost input k).answer) (λ k. header-long (reply_at s ch lost input k).answer))
 
   pub parts-wide : Wide (part_bytes (n_of s)) (parts s ch lost input)
   unfolding parts

@@ -28,8 +28,7 @@ use Rattle.meaning.specs.declared.Answer.TheVariants.{Done, ShortOutput}
 use Rattle.meaning.proofs.Determined.{determined}
 use Rattle.meaning.proofs.Cutting.{WholePieces, cut_flat}
 use Rattle.strips.specs.Repairing.{repairing}
-use Rattle.strip_stream.specs.Strips.{strip_bytes, part_bytes, strip_reply, strip_count, record_count, part_count}
-use Rattle.strip_stream.specs.Strips.{headers, parts, Replies, leaving_both, answering_strips}
+use Rattle.strip_stream.specs.Strips.{strip_bytes, part_bytes, strip_reply, strip_count, record_count, part_count, headers, parts, Replies, leaving_both, answering_strips}
 use Rattle.strip_stream.proofs.Cases.{right, strip-pos, headers-wide, parts-wide, headers-many, parts-many}
 use Rattle.strip_stream.proofs.Writing.{headers-bytes, parts-bytes, short_records, short_repaired, answered}
 
@@ -50,8 +49,7 @@ module _ (s ch lost input repaired records : List ℕ) where
         → (a ≡ ShortOutput) × (x ≡ repaired) × (y ≡ records)
     short_untouched h = alike repaired records ShortOutput (go (ltb (length records) (record_count s ch input * head_bytes)) refl h)
       where
-        go : (b : Bool) → ltb (length records) (record_count s ch input * head_bytes) ≡ b
-            → (length records < record_count s ch input * head_bytes) ⊎ (length repaired < part_count s ch input * part_bytes (n_of s))
+        go : (b : Bool) → ltb (length records) (record_count s ch input * head_bytes) ≡ b → (length records < record_count s ch input * head_bytes) ⊎ (length repaired < part_count s ch input * part_bytes (n_of s))
             → answering_strips s ch lost input repaired records ≡ leaving_both repaired records ShortOutput
         go true e q = sym (short_records s ch lost input repaired records e)
         go false e (inl q) = absurd (true≢false (sym (lt-ltb (length records) (record_count s ch input * head_bytes) q) ∙ e))
@@ -63,8 +61,7 @@ module _ (s ch lost input repaired records : List ℕ) where
         × (y ≡ flatten (headers s ch lost input) ++ drop (record_count s ch input * head_bytes) records)
     room-written h q =
         alike _ _ Done
-        (sym (answered s ch lost input repaired records (le-ltb (length records) (record_count s ch input * head_bytes) h)
-        (le-ltb (length repaired) (part_count s ch input * part_bytes (n_of s)) q) _ _ refl refl))
+        (sym (answered s ch lost input repaired records (le-ltb (length records) (record_count s ch input * head_bytes) h) (le-ltb (length repaired) (part_count s ch input * part_bytes (n_of s)) q) _ _ refl refl))
 
 -- ---- calls with room
 
@@ -96,19 +93,13 @@ module _ {s ch lost : List ℕ} (c : Call s ch lost) where
 
   wrote : (c.answer ≡ Done) × (c.repaired ≡ flatten ps ++ drop (part_count s ch c.input * part_bytes (n_of s)) c.found_repaired)
       × (c.records ≡ flatten hs ++ drop (record_count s ch c.input * head_bytes) c.found_records)
-  wrote =
-      room-written s ch lost c.input c.found_repaired c.found_records c.repaired
-      c.records c.answer c.promise c.roomy_records c.roomy_repaired
+  wrote = room-written s ch lost c.input c.found_repaired c.found_records c.repaired c.records c.answer c.promise c.roomy_records c.roomy_repaired
 
   records-left : records_left c ≡ flatten hs
-  records-left =
-      ap (take (record_count s ch c.input * head_bytes)) wrote.2
-      ∙ take_at (flatten hs) _ (record_count s ch c.input * head_bytes) (headers-bytes s ch lost c.input)
+  records-left = ap (take (record_count s ch c.input * head_bytes)) wrote.2 ∙ take_at (flatten hs) _ (record_count s ch c.input * head_bytes) (headers-bytes s ch lost c.input)
 
   parts-left : parts_left c ≡ flatten ps
-  parts-left =
-      ap (take (part_count s ch c.input * part_bytes (n_of s))) wrote.1
-      ∙ take_at (flatten ps) _ (part_count s ch c.input * part_bytes (n_of s)) (parts-bytes s ch lost c.input)
+  parts-left = ap (take (part_count s ch c.input * part_bytes (n_of s))) wrote.1 ∙ take_at (flatten ps) _ (part_count s ch c.input * part_bytes (n_of s)) (parts-bytes s ch lost c.input)
 
 -- ---- where the sheet and the choice have a right length
 
@@ -140,25 +131,20 @@ module _ (s ch lost : List ℕ) (h : n_of s ≤ largest_n) (two : length ch ≡ 
         ∙ ap (λ (t : List (List ℕ)). get_or t k []) (right s ch lost c.input h two).parted ∙ tab-at (strip_count s c.input) _ k [] l
 
     -- repairing answers a and leaves its output untouched
-    pub untouched : (a : Answer) → repairing n s (get_or ch 0 0) (get_or ch 1 0) (piece_at (strip_bytes n) c.input k) lost (replicate (part_bytes n) 255)
-        ≡ leaving (replicate (part_bytes n) 255) a
+    pub untouched : (a : Answer) → repairing n s (get_or ch 0 0) (get_or ch 1 0) (piece_at (strip_bytes n) c.input k) lost (replicate (part_bytes n) 255) ≡ leaving (replicate (part_bytes n) 255) a
         → (row head_bytes c.records k ≡ header a) × (row (part_bytes n) c.repaired k ≡ replicate (part_bytes n) 255)
     unfolding strip_reply
     untouched a e = (record_at_lem ∙ ap (λ (t : Reply). header t.answer) e, part_at ∙ ap (λ (t : Reply). t.bytes) e)
 
   -- two inputs with the same strip k have the same record and the same part there
-  pub strip_alone : (c d : Call s ch lost) (k : ℕ) → k < strip_count s c.input
-      → k < strip_count s d.input → piece_at (strip_bytes n) c.input k ≡ piece_at (strip_bytes n) d.input k
+  pub strip_alone : (c d : Call s ch lost) (k : ℕ) → k < strip_count s c.input → k < strip_count s d.input → piece_at (strip_bytes n) c.input k ≡ piece_at (strip_bytes n) d.input k
       → (row head_bytes c.records k ≡ row head_bytes d.records k) × (row (part_bytes n) c.repaired k ≡ row (part_bytes n) d.repaired k)
-  strip_alone c d k l m e = (
-    record_at_lem c k l ∙ ap (λ (w : List ℕ). header (reply_to w).answer) e ∙ sym (record_at_lem d k m),
-    part_at c k l ∙ ap (λ (w : List ℕ). (reply_to w).bytes) e ∙ sym (part_at d k m),
-  )
+  strip_alone c d k l m e =
+      (record_at_lem c k l ∙ ap (λ (w : List ℕ). header (reply_to w).answer) e ∙ sym (record_at_lem d k m), part_at c k l ∙ ap (λ (w : List ℕ). (reply_to w).bytes) e ∙ sym (part_at d k m))
 
   -- the bytes of the records and of the parts of an input in parts, all but the last of whole strips
   pub cut_headers : (ins : List (List ℕ)) (last : List ℕ) → WholePieces (strip_bytes n) ins
-      → flatten (headers s ch lost (flatten ins ++ last))
-      ≡ flatten (map (λ (i : List ℕ). flatten (headers s ch lost i)) ins) ++ flatten (headers s ch lost last)
+      → flatten (headers s ch lost (flatten ins ++ last)) ≡ flatten (map (λ (i : List ℕ). flatten (headers s ch lost i)) ins) ++ flatten (headers s ch lost last)
   cut_headers = cut_flat (strip_bytes n) (strip-pos n) (λ (w : List ℕ). header (reply_to w).answer) (headers s ch lost) (λ i. (right s ch lost i h two).headed)
 
   pub cut_parts : (ins : List (List ℕ)) (last : List ℕ) → WholePieces (strip_bytes n) ins
@@ -167,8 +153,7 @@ module _ (s ch lost : List ℕ) (h : n_of s ≤ largest_n) (two : length ch ≡ 
 
   -- what a list of calls left, by what each left
   all_left : (left : Call s ch lost → List ℕ) (g : List ℕ → List (List ℕ)) → ((c : Call s ch lost) → left c ≡ flatten (g c.input))
-      → (calls : List (Call s ch lost)) → flatten (map (λ (i : List ℕ). flatten (g i)) (map (λ (c : Call s ch lost). c.input) calls))
-      ≡ flatten (map left calls)
+      → (calls : List (Call s ch lost)) → flatten (map (λ (i : List ℕ). flatten (g i)) (map (λ (c : Call s ch lost). c.input) calls)) ≡ flatten (map left calls)
   unfolding flatten
   all_left left g e [] = refl
   all_left left g e (c ∷ calls) = ap₂ {C = List ℕ} ◌++◌ (sym (e c)) (all_left left g e calls)

@@ -18,7 +18,7 @@ use lib.Dec.{ltb}
 use borrow.Author.Tests.{lt-ltb, le-ltb, ltb-true, ltb-false}
 use Rattle.bits.specs.Vectors.{tab}
 use Rattle.bits.proofs.RowLaws.{length-flatten}
-use Rattle.bits.proofs.Records.{flatten-one}
+use Rattle.bits.proofs.Records.{flatten_one}
 use Rattle.meaning.specs.Limits.{head_bytes}
 use Rattle.meaning.specs.Answers.{Reply, reply}
 use Rattle.meaning.specs.Stream.{header, n_of, rounded_up, piece_at}
@@ -51,13 +51,10 @@ replied n s r c lost strip part blank x a l e p = p ∙ ap (repairing n s r c st
 
 module _ (s ch lost input : List ℕ) where
   pub headers-bytes : length (flatten (headers s ch lost input)) ≡ record_count s ch input * head_bytes
-  headers-bytes =
-      length-flatten head_bytes (headers s ch lost input) (headers-wide s ch lost input) ∙ ap (λ (k : ℕ). k * head_bytes) (headers-many s ch lost input)
+  headers-bytes = length-flatten head_bytes (headers s ch lost input) (headers-wide s ch lost input) ∙ ap (λ (k : ℕ). k * head_bytes) (headers-many s ch lost input)
 
   pub parts-bytes : length (flatten (parts s ch lost input)) ≡ part_count s ch input * part_bytes (n_of s)
-  parts-bytes =
-      length-flatten (part_bytes (n_of s)) (parts s ch lost input) (parts-wide s ch lost input)
-      ∙ ap (λ (k : ℕ). k * part_bytes (n_of s)) (parts-many s ch lost input)
+  parts-bytes = length-flatten (part_bytes (n_of s)) (parts s ch lost input) (parts-wide s ch lost input) ∙ ap (λ (k : ℕ). k * part_bytes (n_of s)) (parts-many s ch lost input)
 
 -- ---- one record alone
 
@@ -65,18 +62,14 @@ module _ {s ch lost input : List ℕ} {a : Answer} (p : Alone s ch lost input a)
   pub alone_room : (l : ℕ) → record_count s ch input * head_bytes ≤ l → head_bytes ≤ l
   alone_room l h = let e : record_count s ch input * head_bytes ≡ 1 * head_bytes = ap (λ (k : ℕ). k * head_bytes) p.one in omega (arith, e)
 
-  pub alone_records : (records x : List ℕ) → x ≡ header a ++ drop head_bytes records
-      → x ≡ flatten (headers s ch lost input) ++ drop (record_count s ch input * head_bytes) records
+  pub alone_records : (records x : List ℕ) → x ≡ header a ++ drop head_bytes records → x ≡ flatten (headers s ch lost input) ++ drop (record_count s ch input * head_bytes) records
   alone_records records x e =
-      let j : head_bytes ≡ record_count s ch input * head_bytes =
-      (let q : head_bytes ≡ 1 * head_bytes = omega arith in q) ∙ ap (λ (k : ℕ). k * head_bytes) (sym p.one) in
-      e ∙ ap₂ {C = List ℕ} (λ t i. t ++ drop i records) (sym (ap flatten p.headed ∙ flatten-one (header a))) j
+      let j : head_bytes ≡ record_count s ch input * head_bytes = (let q : head_bytes ≡ 1 * head_bytes = omega arith in q) ∙ ap (λ (k : ℕ). k * head_bytes) (sym p.one) in
+      e ∙ ap₂ {C = List ℕ} (λ t i. t ++ drop i records) (sym (ap flatten p.headed ∙ flatten_one (header a))) j
 
   pub alone_repaired : (repaired : List ℕ) → repaired ≡ flatten (parts s ch lost input) ++ drop (part_count s ch input * part_bytes (n_of s)) repaired
   unfolding flatten
-  alone_repaired repaired =
-      sym (ap₂ {C = List ℕ} (λ t k. flatten t ++ drop (k * part_bytes (n_of s)) repaired) p.parted p.none
-      ∙ ap (λ (k : ℕ). drop k repaired) (zero-mul (part_bytes (n_of s))))
+  alone_repaired repaired = sym (ap₂ {C = List ℕ} (λ t k. flatten t ++ drop (k * part_bytes (n_of s)) repaired) p.parted p.none ∙ ap (λ (k : ℕ). drop k repaired) (zero-mul (part_bytes (n_of s))))
 
 -- ---- a record and a part for each strip, for the n that the code finds
 
@@ -87,8 +80,7 @@ module _ {s ch lost input : List ℕ} (p : Right s ch lost input) (n k : ℕ) (e
   counted : k ≡ rounded_up (length input) (strip_bytes (n_of s))
   counted = ek ∙ ap (λ (m : ℕ). rounded_up (length input) (strip_bytes m)) en
 
-  pub each_room : (l m : ℕ) → record_count s ch input * head_bytes ≤ l
-      → part_count s ch input * part_bytes (n_of s) ≤ m → (k * part_bytes n ≤ m) × (k * head_bytes ≤ l)
+  pub each_room : (l m : ℕ) → record_count s ch input * head_bytes ≤ l → part_count s ch input * part_bytes (n_of s) ≤ m → (k * part_bytes n ≤ m) × (k * head_bytes ≤ l)
   each_room l m h q = (rw (en, counted, ← p.each) q, rw (counted, ← p.many) h)
 
   pub each_records : (records x : List ℕ) → x ≡ flatten (tab k (λ (i : ℕ). header (reply_to n i).answer)) ++ drop (k * head_bytes) records
@@ -131,20 +123,17 @@ module _ (s ch input : List ℕ) (l k : ℕ) (ek : k ≡ record_count s ch input
   records_fit_lem h = tested false (le-ltb (l / head_bytes) k h)
 
 module _ (s ch lost input repaired records : List ℕ) where
-  pub short_records : ltb (length records) (record_count s ch input * head_bytes) ≡ true
-      → leaving_both repaired records ShortOutput ≡ answering_strips s ch lost input repaired records
+  pub short_records : ltb (length records) (record_count s ch input * head_bytes) ≡ true → leaving_both repaired records ShortOutput ≡ answering_strips s ch lost input repaired records
   unfolding answering_strips
   short_records h = rw h
 
   module _ (h : ltb (length records) (record_count s ch input * head_bytes) ≡ false) where
-    pub short_repaired : ltb (length repaired) (part_count s ch input * part_bytes (n_of s)) ≡ true
-        → leaving_both repaired records ShortOutput ≡ answering_strips s ch lost input repaired records
+    pub short_repaired : ltb (length repaired) (part_count s ch input * part_bytes (n_of s)) ≡ true → leaving_both repaired records ShortOutput ≡ answering_strips s ch lost input repaired records
     unfolding answering_strips
     short_repaired q = rw (h, q)
 
     pub answered : ltb (length repaired) (part_count s ch input * part_bytes (n_of s)) ≡ false → (x y : List ℕ)
-        → x ≡ flatten (parts s ch lost input) ++ drop (part_count s ch input * part_bytes (n_of s)) repaired
-        → y ≡ flatten (headers s ch lost input) ++ drop (record_count s ch input * head_bytes) records
+        → x ≡ flatten (parts s ch lost input) ++ drop (part_count s ch input * part_bytes (n_of s)) repaired → y ≡ flatten (headers s ch lost input) ++ drop (record_count s ch input * head_bytes) records
         → leaving_both x y Done ≡ answering_strips s ch lost input repaired records
     unfolding answering_strips
     answered q x y ex ey =

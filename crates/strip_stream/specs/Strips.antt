@@ -78,6 +78,5 @@ answering_strips s ch lost input repaired records =
     let ps = flatten (parts s ch lost input) in
     let hs = flatten (headers s ch lost input) in
     first_of (leaving_both repaired records)
-    ((ltb (length records) (record_count s ch input * head_bytes) ⇒ ShortOutput)
-    ∷ (ltb (length repaired) (part_count s ch input * part_bytes (n_of s)) ⇒ ShortOutput) ∷ [])
+    ((ltb (length records) (record_count s ch input * head_bytes) ⇒ ShortOutput) ∷ (ltb (length repaired) (part_count s ch input * part_bytes (n_of s)) ⇒ ShortOutput) ∷ [])
     (leaving_both (ps ++ drop (length ps) repaired) (hs ++ drop (length hs) records) Done)

@@ -6,8 +6,7 @@ ghost use mathlib.Core.List.{◌++◌, flatten};
 ghost use Rattle.bits.specs.Vectors.{tab};
 ghost use Rattle.meaning.specs.Limits.{largest_n, head_bytes};
 ghost use Rattle.meaning.specs.Stream.{header, n_of, rounded_up, piece_at};
-ghost use Rattle.strip_stream.specs.Strips.{strip_bytes, part_bytes, strip_reply, by_case, strip_count, record_count};
-ghost use Rattle.strip_stream.specs.Strips.{part_count, headers, parts, leaving_both, answering_strips};
+ghost use Rattle.strip_stream.specs.Strips.{strip_bytes, part_bytes, strip_reply, by_case, strip_count, record_count, part_count, headers, parts, leaving_both, answering_strips};
 
 use answers::pieces;
 use meaning::{Answer, limits};
@@ -39,7 +38,7 @@ fn part_bytes(n: usize) -> usize
 fn many(sheet: &[u8], choice: &[u8], input: &[u8], alone: usize) -> usize
     ensures { result ≡ by_case sheet.now choice.now alone alone (strip_count sheet.now input.now) }
 {
-    let n = sheet::n_of(sheet);
+    let n = stream::n_of(sheet);
     if limits::LARGEST_N < n {
         return alone;
     }
@@ -68,7 +67,7 @@ pub fn parts(sheet: &[u8], choice: &[u8], input: &[u8]) -> usize
 pub fn part(sheet: &[u8]) -> usize
     ensures { result ≡ part_bytes (n_of sheet.now) }
 {
-    part_bytes(sheet::n_of(sheet))
+    part_bytes(stream::n_of(sheet))
 }
 
 // Fills a part with 255.
@@ -124,12 +123,8 @@ fn each(
 )
     requires n_le_largest_n { (n ≤ largest_n) × (k ≡ rounded_up (length input.now) (strip_bytes n)) }
     requires n_in_bounds { (k * part_bytes n ≤ length repaired.old) × (k * head_bytes ≤ length records.old) }
-    ensures repaired_after { repaired.new ≡ flatten (tab k
-        (λ (i : ℕ). (strip_reply n sheet.now r ceiling lost.now (piece_at (strip_bytes n) input.now i)).bytes))
-        ++ drop (k * part_bytes n) repaired.old }
-    ensures records_after { records.new ≡ flatten (tab k
-        (λ (i : ℕ). header (strip_reply n sheet.now r ceiling lost.now (piece_at (strip_bytes n) input.now i)).answer))
-        ++ drop (k * head_bytes) records.old }
+    ensures repaired_after { repaired.new ≡ flatten (tab k (λ (i : ℕ). (strip_reply n sheet.now r ceiling lost.now (piece_at (strip_bytes n) input.now i)).bytes)) ++ drop (k * part_bytes n) repaired.old }
+    ensures records_after { records.new ≡ flatten (tab k (λ (i : ℕ). header (strip_reply n sheet.now r ceiling lost.now (piece_at (strip_bytes n) input.now i)).answer)) ++ drop (k * head_bytes) records.old }
 {
     let size = strip_bytes(n);
     let room = part_bytes(n);
@@ -162,14 +157,11 @@ fn write(
     repaired: &mut [u8],
     records: &mut [u8],
 )
-    requires { (record_count sheet.now choice.now input.now * head_bytes ≤ length records.old)
-        × (part_count sheet.now choice.now input.now * part_bytes (n_of sheet.now) ≤ length repaired.old) }
-    ensures repaired_after { repaired.new ≡ flatten (parts sheet.now choice.now lost.now input.now)
-        ++ drop (part_count sheet.now choice.now input.now * part_bytes (n_of sheet.now)) repaired.old }
-    ensures records_after { records.new ≡ flatten (headers sheet.now choice.now lost.now input.now)
-        ++ drop (record_count sheet.now choice.now input.now * head_bytes) records.old }
+    requires { (record_count sheet.now choice.now input.now * head_bytes ≤ length records.old) × (part_count sheet.now choice.now input.now * part_bytes (n_of sheet.now) ≤ length repaired.old) }
+    ensures repaired_after { repaired.new ≡ flatten (parts sheet.now choice.now lost.now input.now) ++ drop (part_count sheet.now choice.now input.now * part_bytes (n_of sheet.now)) repaired.old }
+    ensures records_after { records.new ≡ flatten (headers sheet.now choice.now lost.now input.now) ++ drop (record_count sheet.now choice.now input.now * head_bytes) records.old }
 {
-    let n = sheet::n_of(sheet);
+    let n = stream::n_of(sheet);
     if limits::LARGEST_N < n {
         put(Answer::BadShape, records);
     } else if choice.len() != 2 {
@@ -212,9 +204,7 @@ pub fn answer(
     repaired: &mut [u8],
     records: &mut [u8],
 ) -> Answer
-    ensures { leaving_both repaired.new records.new result
-        ≡ answering_strips sheet.now choice.now lost.now
-        input.now repaired.old records.old }
+    ensures { leaving_both repaired.new records.new result ≡ answering_strips sheet.now choice.now lost.now input.now repaired.old records.old }
 {
     if records.len() / limits::HEAD < count(sheet, choice, input) {
         return Answer::ShortOutput;

@@ -5,9 +5,8 @@
 --     lane-formed                  no fault of form in a strip, none in its lanes
 --     marks-many, form_room        then there are N marks, and room for the output
 --     repair_refused               repairing is refused for it
---     repair_formed                nothing is refused
---     repair_decides               what is left to decide: formed_decides
--- c is the ceiling and w the marks.
+--     repair_passed                nothing is refused
+--     repair_decided               what is left to decide
 use mathlib.Core.Path.{◌≡◌, refl, sym, ap, ap₂, ◌∙◌}
 use mathlib.Core.Logic.{⊎_elim}
 use Prim.Native.Nat.{ℕ, zero, suc, ◌+◌, ◌*◌, ◌/◌, ◌^◌, ◌≤◌, ◌<◌}
@@ -23,12 +22,10 @@ use Rattle.meaning.specs.Limits.{largest_n, mask_bytes, record_bytes, largest_ce
 use Rattle.meaning.specs.Sheet.{Rule, rules}
 use Rattle.meaning.specs.Codewords.{erased, candidates}
 use Rattle.meaning.specs.Open.{is_open, open_all, open_free, closed_frozen, unknowns, equations}
-use Rattle.meaning.specs.Answers.{Refusal, ◌⇒◌, first_of, fault, isDone, checking, wording}
-use Rattle.meaning.specs.Answers.{refuses, sheetRefusals, wordRefusals, formRefusals, Reply, leaving, verdict, decoding}
+use Rattle.meaning.specs.Answers.{Refusal, ◌⇒◌, first_of, fault, isDone, checking, wording, refuses, sheetRefusals, wordRefusals, formRefusals, Reply, leaving, verdict, decoding}
 use Rattle.meaning.specs.declared.Answer.{Answer}
 use Rattle.meaning.specs.declared.Answer.TheVariants.{Done, BadLength, BadCeiling, TooMany}
 use Rattle.meaning.proofs.Refusals.{tried_done, tried_refused, past_none, none_append}
-use Rattle.meaning.specs.Forms.{Formed}
 use Rattle.meaning.proofs.Forms.{good, checked-none, worded, worded_none}
 use Rattle.meaning.proofs.Demands.{under}
 use Rattle.sheet.proofs.Records.{records_in}
@@ -36,7 +33,7 @@ use Rattle.sheet.proofs.Shapes.{size-most}
 use Rattle.decoder.proofs.Deciding.{form_none}
 use Rattle.strips.specs.Repairing.{lane_bit, lane_of, repair_form, repair_refusals, lane_reply, strip_reply, repairing}
 use Rattle.strips.specs.Placing.{lost_sym, lost_word}
-use Rattle.strips.specs.Deciding.{lane_in, lane_verdict, repair_deciding, Stripped}
+use Rattle.strips.specs.Deciding.{lane_in, lane_verdict, repair_deciding, Formed}
 
 -- ---- the fault of form
 
@@ -63,20 +60,19 @@ module _ (n : ℕ) (s : List ℕ) (r c strip : ℕ) (w : List ℕ) (room : ℕ) 
     fault_sheet t = ea ∙ sym (tried_refused (λ (x : Answer). x) S (L ++ C) Done (ap isDone (sym ea) ∙ sym eb ∙ t)) ∙ sym table
 
     module _ (t : b ≡ true) where
-      sheet-none : refuses S ≡ false
-      sheet-none = checked-none n s r (ap isDone (sym ea) ∙ sym eb ∙ t)
+      sheet_none : refuses S ≡ false
+      sheet_none = checked-none n s r (ap isDone (sym ea) ∙ sym eb ∙ t)
 
       size_is : length s / record_bytes ≡ 2 ^ n
-      size_is = records_in (length s) (2 ^ n) (good n s r sheet-none).long
+      size_is = records_in (length s) (2 ^ n) (good n s r sheet_none).long
 
       past_sheet : fault (repair_form n s r c strip w room) ≡ pick (not (eqb strip (2 ^ n * 64))) BadLength (first_of (λ (x : Answer). x) (W ++ C) Done)
-      past_sheet = table ∙ past_none (λ (x : Answer). x) S (L ++ C) Done sheet-none
+      past_sheet = table ∙ past_none (λ (x : Answer). x) S (L ++ C) Done sheet_none
 
       pub fault_strip : (strip ≡ length s / record_bytes * 64 → ⊥) → BadLength ≡ fault (repair_form n s r c strip w room)
       fault_strip h = sym (past_sheet ∙ rw (ne_eqb strip (2 ^ n * 64) (λ z. h (z ∙ ap (λ (k : ℕ). k * 64) (sym size_is)))) refl)
 
-      module _ (l : strip ≡ length s / record_bytes * 64) (v : Answer) (ev : v ≡ wording (length s / record_bytes) 1 (65 * (length s / record_bytes)) w room)
-          (d : Bool) (ed : d ≡ isDone v) where
+      module _ (l : strip ≡ length s / record_bytes * 64) (v : Answer) (ev : v ≡ wording (length s / record_bytes) 1 (65 * (length s / record_bytes)) w room) (d : Bool) (ed : d ≡ isDone v) where
         -- N, in the value that the code has
         meant : v ≡ wording (2 ^ n) 1 (65 * 2 ^ n) w room
         meant = ev ∙ ap (λ (k : ℕ). wording k 1 (65 * k) w room) size_is
@@ -106,9 +102,7 @@ erased-lost a x = go (eqb a 0)
     go true = refl
     go false = refl
 
-lane_word_lem : (lost : List ℕ) (f : ℕ → ℕ)
-    → tab (length lost) (λ (j : ℕ). pick (eqb (get_or lost j 0) 0) (f j) 2)
-    ≡ tab (length (lost_word lost)) (λ (j : ℕ). pick (erased (get_or (lost_word lost) j 2)) 2 (f j))
+lane_word_lem : (lost : List ℕ) (f : ℕ → ℕ) → tab (length lost) (λ (j : ℕ). pick (eqb (get_or lost j 0) 0) (f j) 2) ≡ tab (length (lost_word lost)) (λ (j : ℕ). pick (erased (get_or (lost_word lost) j 2)) 2 (f j))
 lane_word_lem [] f = refl
 lane_word_lem (a ∷ lost) f = ap₂ {C = List ℕ} ◌∷◌ (erased-lost a (f 0)) (lane_word_lem lost (λ (j : ℕ). f (suc j)))
 
@@ -116,8 +110,7 @@ pub lane-same : (strip lost : List ℕ) (t : ℕ) → lane_of strip lost t ≡ l
 lane-same strip lost t = lane_word_lem lost (λ (j : ℕ). lane_bit strip j t)
 
 -- a word of the bits of the known symbols has the same symbols erased
-in_erased : (word : List ℕ) (f : ℕ → ℕ) → ((j : ℕ) → f j < 2)
-    → map erased (tab (length word) (λ (j : ℕ). pick (erased (get_or word j 2)) 2 (f j))) ≡ map erased word
+in_erased : (word : List ℕ) (f : ℕ → ℕ) → ((j : ℕ) → f j < 2) → map erased (tab (length word) (λ (j : ℕ). pick (erased (get_or word j 2)) 2 (f j))) ≡ map erased word
 in_erased [] f h = refl
 in_erased (s ∷ word) f h = ap₂ {C = List Bool} ◌∷◌ (go (erased s) (f 0) (h 0)) (in_erased word (λ (j : ℕ). f (suc j)) (λ j. h (suc j)))
   where
@@ -146,8 +139,7 @@ lane_worded strip lost t N room e k =
     let w : List ℕ = lane_of strip lost t in
     let l : length w ≡ length lost = length-tab (length lost) _ in
     let f : first_place (ltb 2) w ≡ length w = ⊎_elim (λ (h : length w ≤ first_place (ltb 2) w). let p = place_le (ltb 2) w in omega arith)
-    (λ (h : first_place (ltb 2) w < length w). absurd (not-both (place_passes (ltb 2) w 0 h) (small (first_place (ltb 2) w) (omega arith))))
-    (le_or_lt (length w) (first_place (ltb 2) w)) in
+    (λ (h : first_place (ltb 2) w < length w). absurd (not-both (place_passes (ltb 2) w 0 h) (small (first_place (ltb 2) w) (omega arith)))) (le_or_lt (length w) (first_place (ltb 2) w)) in
     rw (eq-eqb (length w) N (l ∙ e), le-ltb (first_place (ltb 2) w) (length w) (omega arith), le-ltb room (3 * N) k) refl
   where
     two : (b : Bool) (x : ℕ) → x < 2 → ltb 2 (pick b x 2) ≡ false
@@ -184,20 +176,17 @@ module _ (n : ℕ) (s : List ℕ) (r c : ℕ) (strip lost out : List ℕ) where
       let (p, u) = none_append (S n s r c (length strip) lost (length out) ++ L n s r c (length strip) lost (length out)) _ h in
       let (q, v) = none_append (S n s r c (length strip) lost (length out)) _ p in
       let d = worded (2 ^ n) 1 (65 * 2 ^ n) lost (length out) (or_false_r (not (eqb (length strip) (2 ^ n * 64))) _ v) in
-      form_none n s r c (lane_of strip lost t) o q (lane_worded strip lost t (2 ^ n) (length o) d.long k)
-      (ltb-false largest_ceiling c (or_false_l (ltb largest_ceiling c) false u))
+      form_none n s r c (lane_of strip lost t) o q (lane_worded strip lost t (2 ^ n) (length o) d.long k) (ltb-false largest_ceiling c (or_false_l (ltb largest_ceiling c) false u))
 
   -- what `decode` answers lane t, where 18 does not apply
-  lane_judged : refuses F ≡ false → unknowns n (rules n s) (lost_word lost) ≤ c → (t : ℕ)
-      → lane_reply n s r c strip lost t ≡ lane_verdict n s r strip (lost_word lost) t
-  lane_judged h l t =
-      under n s r c (lane_of strip lost t) (replicate (3 * 2 ^ n) 0) (lane-formed h t (replicate (3 * 2 ^ n) 0)
-      (omega (arith, length-replicate {A = ℕ} (3 * 2 ^ n) 0))) (omega (arith, g_same t))
+  lane_told : refuses F ≡ false → unknowns n (rules n s) (lost_word lost) ≤ c → (t : ℕ) → lane_reply n s r c strip lost t ≡ lane_verdict n s r strip (lost_word lost) t
+  lane_told h l t =
+      under n s r c (lane_of strip lost t) (replicate (3 * 2 ^ n) 0) (lane-formed h t (replicate (3 * 2 ^ n) 0) (omega (arith, length-replicate {A = ℕ} (3 * 2 ^ n) 0))) (omega (arith, g_same t))
       ∙ λ i. verdict n (g_same t i) (m_same t i) (candidates n (rules n s) r (lane-same strip lost t i)) (replicate (3 * 2 ^ n) 0)
 
-  pub formed_decides : refuses F ≡ false → repair_deciding n s r c strip (lost_word lost) out ≡ repairing n s r c strip lost out
+  pub deciding-is : refuses F ≡ false → repair_deciding n s r c strip (lost_word lost) out ≡ repairing n s r c strip lost out
   unfolding repair_deciding repairing repair_refusals
-  formed_decides h =
+  deciding-is h =
       sym (past_none (leaving out) F ((ltb c G ⇒ TooMany G) ∷ []) last h
       ∙ ap (λ (g : ℕ). pick (ltb c g) (leaving out (TooMany g)) last) (g_same 0) ∙ go (ltb c (unknowns n (rules n s) (lost_word lost))) refl)
     where
@@ -205,32 +194,34 @@ module _ (n : ℕ) (s : List ℕ) (r c : ℕ) (strip lost out : List ℕ) where
       W' = lost_word lost
 
       go : (b : Bool) → ltb c (unknowns n (rules n s) W') ≡ b
-          → pick b (leaving out (TooMany (unknowns n (rules n s) W'))) last
-          ≡ pick b (leaving out (TooMany (unknowns n (rules n s) W'))) (strip_reply n (lane_verdict n s r strip W') out)
+          → pick b (leaving out (TooMany (unknowns n (rules n s) W'))) last ≡ pick b (leaving out (TooMany (unknowns n (rules n s) W'))) (strip_reply n (lane_verdict n s r strip W') out)
       go true e = refl
-      go false e = ap (λ (f : ℕ → Reply). strip_reply n f out) (λ i t. lane_judged h (ltb-false c (unknowns n (rules n s) W') e) t i)
+      go false e = ap (λ (f : ℕ → Reply). strip_reply n f out) (λ i t. lane_told h (ltb-false c (unknowns n (rules n s) W') e) t i)
 
-  formed : refuses F ≡ false → Formed n s r c (length (lost_word lost)) × Stripped n (length strip) (length out)
+  formed : refuses F ≡ false → Formed n s r c (length strip) (length (lost_word lost)) (length out)
   unfolding repair_form
   formed h =
       let (p, u) = none_append (S n s r c (length strip) lost (length out) ++ L n s r c (length strip) lost (length out)) _ h in
       let (q, v) = none_append (S n s r c (length strip) lost (length out)) _ p in
+      let g = good n s r q in
       let d = worded (2 ^ n) 1 (65 * 2 ^ n) lost (length out) (or_false_r (not (eqb (length strip) (2 ^ n * 64))) _ v) in
-      let l = not-false (eqb (length strip) (2 ^ n * 64)) (or_false_l (not (eqb (length strip) (2 ^ n * 64))) _ v) in (
-        record {
-          sheet = good n s r q;
-          symbols = length-map lost lost_sym
-              ∙ d.long;
-          low = ltb-false largest_ceiling c (or_false_l (ltb largest_ceiling c) false u);
-        },
-        record { records = eqb-true (length strip) (2 ^ n * 64) l; room = d.roomy },
-      )
+      record {
+        small = g.small;
+        long = g.long;
+        ordered = g.ordered;
+        check = g.check;
+        enough = g.roomy;
+        records = eqb-true (length strip) (2 ^ n * 64) (not-false (eqb (length strip) (2 ^ n * 64)) (or_false_l (not (eqb (length strip) (2 ^ n * 64))) _ v));
+        symbols = length-map lost lost_sym ∙ d.long;
+        room = d.roomy;
+        low = ltb-false largest_ceiling c (or_false_l (ltb largest_ceiling c) false u);
+      }
 
   pub marks-many : refuses F ≡ false → length lost ≡ 2 ^ n
-  marks-many h = sym (length-map lost lost_sym) ∙ (formed h).0.symbols
+  marks-many h = sym (length-map lost lost_sym) ∙ (formed h).symbols
 
   pub form_room : refuses F ≡ false → 65 * 2 ^ n ≤ length out
-  form_room h = (formed h).1.room
+  form_room h = (formed h).room
 
   module _ (a : Answer) (ea : a ≡ fault (repair_form n s r c (length strip) lost (length out))) (b : Bool) (eb : b ≡ isDone a) where
     pub repair_refused : b ≡ false → leaving out a ≡ repairing n s r c strip lost out
@@ -241,12 +232,12 @@ module _ (n : ℕ) (s : List ℕ) (r c : ℕ) (strip lost out : List ℕ) where
     unfolding repair_form sheetRefusals wordRefusals
     none t = tried_done F refl (ap isDone (sym ea) ∙ sym eb ∙ t)
 
-    pub repair_formed : b ≡ true → Formed n s r c (length (lost_word lost)) × Stripped n (length strip) (length out)
-    repair_formed t = formed (none t)
+    pub repair_passed : b ≡ true → Formed n s r c (length strip) (length (lost_word lost)) (length out)
+    repair_passed t = formed (none t)
 
-    pub repair_decides : b ≡ true → (x : Reply) → x ≡ repair_deciding n s r c strip (lost_word lost) out → x ≡ repairing n s r c strip lost out
-    repair_decides t x p = p ∙ formed_decides (none t)
+    pub repair_decided : b ≡ true → (x : Reply) → x ≡ repair_deciding n s r c strip (lost_word lost) out → x ≡ repairing n s r c strip lost out
+    repair_decided t x p = p ∙ deciding-is (none t)
 
 -- no more records than a mask can name
-pub few-records : (n : ℕ) (s : List ℕ) (r c : ℕ) (lost : List ℕ) → Formed n s r c (length (lost_word lost)) → length lost ≤ 8 * mask_bytes
-few-records n s r c lost F = size-most n (length lost) F.sheet.small (sym (length-map lost lost_sym) ∙ F.symbols)
+pub few_records : (n : ℕ) (s : List ℕ) (r c strip : ℕ) (lost : List ℕ) (out : ℕ) → Formed n s r c strip (length (lost_word lost)) out → length lost ≤ 8 * mask_bytes
+few_records n s r c strip lost out F = size-most n (length lost) F.small (sym (length-map lost lost_sym) ∙ F.symbols)

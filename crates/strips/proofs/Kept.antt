@@ -19,8 +19,7 @@ use Rattle.meaning.specs.declared.Answer.{Answer}
 use Rattle.meaning.proofs.Refusals.{refused_untouched, first-none, none_append}
 use Rattle.lanes.proofs.Collecting.{place_below}
 use Rattle.lanes.proofs.Spelling.{packed_ext}
-use Rattle.strips.specs.Repairing.{is_inconsistent, at_lane, open_at, byte_at, record_at, repaired}
-use Rattle.strips.specs.Repairing.{first_bad, strip_reply, repair_form, repair_refusals, lane_reply, repairing}
+use Rattle.strips.specs.Repairing.{is_inconsistent, at_lane, open_at, byte_at, record_at, repaired, first_bad, strip_reply, repair_form, repair_refusals, lane_reply, repairing}
 use Rattle.strips.proofs.Faults.{form_room}
 
 -- new bytes at the start of a buffer that has room for them
@@ -38,18 +37,14 @@ module _ (n : ℕ) (lane : ℕ → Reply) where
   pub repaired-long : length (repaired n lane) ≡ 65 * 2 ^ n
   repaired-long =
       let l : length (flatten (tab (2 ^ n) (record_at n lane))) ≡ 2 ^ n * 64 =
-      length-flatten 64 (tab (2 ^ n) (record_at n lane)) (wide-tab 64 (2 ^ n) (record_at n lane) record_long)
-      ∙ ap (λ (k : ℕ). k * 64) (length-tab (2 ^ n) (record_at n lane)) in
+      length-flatten 64 (tab (2 ^ n) (record_at n lane)) (wide-tab 64 (2 ^ n) (record_at n lane) record_long) ∙ ap (λ (k : ℕ). k * 64) (length-tab (2 ^ n) (record_at n lane)) in
       length-append (flatten (tab (2 ^ n) (record_at n lane))) _ ∙ omega (arith, l, length-tab (2 ^ n) (λ (j : ℕ). bit (open_at n lane j)))
 
   reply_long : (out : List ℕ) → 65 * 2 ^ n ≤ length out → length (strip_reply n lane out).bytes ≡ length out
   unfolding strip_reply
   reply_long out h = go (ltb (first_bad n lane) 512)
     where
-      go : (b : Bool)
-          → (let t = first_bad n lane in
-          length (pick b (leaving out (at_lane t (lane t).answer)) (writing (repaired n lane) out (lane 0).answer)).bytes)
-          ≡ length out
+      go : (b : Bool) → length (pick b (leaving out (at_lane (first_bad n lane) (lane (first_bad n lane)).answer)) (writing (repaired n lane) out (lane 0).answer)).bytes ≡ length out
       go true = refl
       go false = over-long (repaired n lane) out (omega (arith, repaired-long))
 
@@ -61,8 +56,7 @@ repair_kept n s r c strip lost out = go (refuses (repair_refusals n s r c strip 
     go true e = ap length (refused_untouched out (repair_refusals n s r c strip lost out) _ e)
     go false e =
         ap (λ (a : Reply). length a.bytes) (first-none (leaving out) (repair_refusals n s r c strip lost out) _ e)
-        ∙ reply_long n (lane_reply n s r c strip lost) out (form_room n s r c strip lost out
-        (none_append (repair_form n s r c (length strip) lost (length out)) _ e).0)
+        ∙ reply_long n (lane_reply n s r c strip lost) out (form_room n s r c strip lost out (none_append (repair_form n s r c (length strip) lost (length out)) _ e).0)
 
 -- ---- the lanes alone
 
@@ -77,29 +71,22 @@ module _ (n : ℕ) (f g : ℕ → Reply) (e : (t : ℕ) → t < 512 → f t ≡ 
 
   pub reply_below : (out : List ℕ) → strip_reply n f out ≡ strip_reply n g out
   unfolding strip_reply
-  reply_below out =
-      ap (shape f (first_bad n f)) whole ∙ ap (λ (k : ℕ). shape f k (writing (repaired n g) out (g 0).answer)) first ∙ go (ltb (first_bad n g) 512) refl
+  reply_below out = ap (shape f (first_bad n f)) whole ∙ ap (λ (k : ℕ). shape f k (writing (repaired n g) out (g 0).answer)) first ∙ go (ltb (first_bad n g) 512) refl
     where
       shape : (ℕ → Reply) → ℕ → Reply → Reply
       shape h k w = pick (ltb k 512) (leaving out (at_lane k (h k).answer)) w
 
       first : first_bad n f ≡ first_bad n g
-      first =
-          place_below 512 (λ (i : ℕ). i) (λ (t : ℕ). is_inconsistent (f t).answer) (λ (t : ℕ). is_inconsistent (g t).answer)
-          (λ t h. ap (λ (a : Reply). is_inconsistent a.answer) (e t h))
+      first = place_below 512 (λ (i : ℕ). i) (λ (t : ℕ). is_inconsistent (f t).answer) (λ (t : ℕ). is_inconsistent (g t).answer) (λ t h. ap (λ (a : Reply). is_inconsistent a.answer) (e t h))
 
       whole : writing (repaired n f) out (f 0).answer ≡ writing (repaired n g) out (g 0).answer
       whole =
           ap₂ (λ (l : List ℕ) (a : Answer). writing l out a)
-          (ap₂ {C = List ℕ} ◌++◌ (ap flatten (tab_below (2 ^ n) (record_at n f) (record_at n g) (λ j h. same_record j)))
-          (tab_below (2 ^ n) _ _ (λ j h. ap bit (same_open j))))
+          (ap₂ {C = List ℕ} ◌++◌ (ap flatten (tab_below (2 ^ n) (record_at n f) (record_at n g) (λ j h. same_record j))) (tab_below (2 ^ n) _ _ (λ j h. ap bit (same_open j))))
           (ap (λ (a : Reply). a.answer) (e 0 (omega arith)))
 
-      go : (b : Bool) → ltb (first_bad n g) 512 ≡ b
-          → shape f (first_bad n g) (writing (repaired n g) out (g 0).answer) ≡ shape g (first_bad n g) (writing (repaired n g) out (g 0).answer)
-      go true q =
-          ap (λ (a : Reply). pick (ltb (first_bad n g) 512) (leaving out (at_lane (first_bad n g) a.answer)) (writing (repaired n g) out (g 0).answer))
-          (e (first_bad n g) (ltb-true (first_bad n g) 512 q))
+      go : (b : Bool) → ltb (first_bad n g) 512 ≡ b → shape f (first_bad n g) (writing (repaired n g) out (g 0).answer) ≡ shape g (first_bad n g) (writing (repaired n g) out (g 0).answer)
+      go true q = ap (λ (a : Reply). pick (ltb (first_bad n g) 512) (leaving out (at_lane (first_bad n g) a.answer)) (writing (repaired n g) out (g 0).answer)) (e (first_bad n g) (ltb-true (first_bad n g) 512 q))
       go false q =
           ap (λ (b : Bool). pick b (leaving out (at_lane (first_bad n g) (f (first_bad n g)).answer)) (writing (repaired n g) out (g 0).answer)) q
           ∙ sym (ap (λ (b : Bool). pick b (leaving out (at_lane (first_bad n g) (g (first_bad n g)).answer)) (writing (repaired n g) out (g 0).answer)) q)

@@ -26,13 +26,13 @@ use Rattle.gf2.proofs.Solutions.{after, rest, rest-length}
 use Rattle.meaning.specs.Sheet.{rule_at, rules, early}
 use Rattle.meaning.specs.Codewords.{erased, candidates}
 use Rattle.meaning.specs.Open.{unknowns, equations}
-use Rattle.meaning.specs.Answers.{Reply, leaving, writing, foundOf, verdict}
+use Rattle.meaning.specs.Answers.{Reply, leaving, writing, verdict}
 use Rattle.meaning.specs.declared.Answer.{Answer}
 use Rattle.meaning.specs.declared.Answer.TheVariants.{Unique, Ambiguous, Inconsistent, LaneInconsistent}
 use Rattle.model.specs.RowValues.{rows_out, rows_system}
 use Rattle.model.proofs.RowValues.{rows_next, rows_sizes}
-use Rattle.model.proofs.OneBit.{has-nought, has_same, has_other, unit_row_lem}
 use Rattle.verdict.specs.OffRows.{settled_by, first_by, last_by, strips_by, verdict_by}
+use Rattle.verdict.proofs.OneBit.{has-nought, has_same, has_other, unit_row_lem}
 use Rattle.verdict.proofs.Listing.{tab_places}
 use Rattle.verdict.proofs.Lanes.{Constant, lane_sym, lane_word}
 use Rattle.verdict.proofs.Lanes as law
@@ -48,9 +48,7 @@ use Rattle.strips.specs.Deciding.{lane_in, lane_verdict}
 
 module _ (c w g : ℕ) (hw : c + 9 ≡ w) (hg : g ≤ 64 * c) (t : ℕ) where
   pub lane_hom : Hom (lane_constant c t)
-  lane_hom x y =
-      ap₂ ◌⊕◌ (has-⊻ (64 * c) x y) (has-⊻ (64 * (c + 1) + t) x y)
-      ∙ ⊕-swap (has (64 * c) x) (has (64 * c) y) (has (64 * (c + 1) + t) x) (has (64 * (c + 1) + t) y)
+  lane_hom x y = ap₂ ◌⊕◌ (has-⊻ (64 * c) x y) (has-⊻ (64 * (c + 1) + t) x y) ∙ ⊕-swap (has (64 * c) x) (has (64 * c) y) (has (64 * (c + 1) + t) x) (has (64 * (c + 1) + t) y)
 
   pub lane-constant : Constant c w g (lane_constant c t)
   lane-constant =
@@ -58,12 +56,9 @@ module _ (c w g : ℕ) (hw : c + 9 ≡ w) (hg : g ≤ 64 * c) (t : ℕ) where
       record {
         hom = lane_hom;
         nought = ap₂ ◌⊕◌ (has-nought w (64 * c)) (has-nought w (64 * (c + 1) + t));
-        unit =
-            ap (lane_constant c t) (unit_row_lem c w) ∙ ap₂ ◌⊕◌ (has_same w (64 * c) z)
-            (has_other w (64 * c) z (64 * (c + 1) + t) (λ (q : 64 * (c + 1) + t ≡ 64 * c). omega arith));
+        unit = ap (lane_constant c t) (unit_row_lem c w) ∙ ap₂ ◌⊕◌ (has_same w (64 * c) z) (has_other w (64 * c) z (64 * (c + 1) + t) (λ (q : 64 * (c + 1) + t ≡ 64 * c). omega arith));
         unknown = λ k l. let y : k / 64 < w = omega arith in
-            ap₂ ◌⊕◌ (has_other w k y (64 * c) (λ (q : 64 * c ≡ k). omega arith))
-            (has_other w k y (64 * (c + 1) + t) (λ (q : 64 * (c + 1) + t ≡ k). omega arith));
+            ap₂ ◌⊕◌ (has_other w k y (64 * c) (λ (q : 64 * c ≡ k). omega arith)) (has_other w k y (64 * (c + 1) + t) (λ (q : 64 * (c + 1) + t ≡ k). omega arith));
       }
 
 -- ---- the rows of the records
@@ -83,8 +78,7 @@ module _ (c w n : ℕ) (strip v : List ℕ) (hw : c + 9 ≡ w) (pl : Placed c w 
       let p : j * 64 + 8 * (t / 64) + t % 64 / 8 ≡ j * 64 + t / 8 = omega arith in
       let q : t % 64 % 8 ≡ t % 8 = omega arith in
       let b : has (64 * (c + 1) + t) x ≡ has_bit (get_or strip (j * 64 + t / 8) 0) (t % 8) =
-      own_is c x t ∙ ap (λ (z : ℕ). has_bit z (t % 64)) y ∙ (pl.lanes j (t / 64) h (omega arith)).bits (t % 64) (omega arith)
-      ∙ ap₂ (λ (i k : ℕ). has_bit (get_or strip i 0) k) p q in
+      own_is c x t ∙ ap (λ (z : ℕ). has_bit z (t % 64)) y ∙ (pl.lanes j (t / 64) h (omega arith)).bits (t % 64) (omega arith) ∙ ap₂ (λ (i k : ℕ). has_bit (get_or strip i 0) k) p q in
       ap bit (ap₂ ◌⊕◌ a b) ∙ bit-has (get_or strip (j * 64 + t / 8) 0) (t % 8)
 
   pub lane_word_lem : (word : List ℕ) → length word ≡ n → (t : ℕ) → t < 512 → lane_word (lane_constant c t) word (row w v) ≡ lane_in strip word t
@@ -143,8 +137,7 @@ module _ (n : ℕ) (sheet word strip v : List ℕ) (c w r : ℕ) (hw : c + 9 ≡
   unfolding rules
   lane-verdict t ht =
       ap (λ (x : List ℕ). verdict n g m (candidates n (rules n sheet) r x) zeros) (sym (lane_word_lem c w (2 ^ n) strip v hw pl word lw t ht))
-      ∙ law.lane-verdict c w g hc hg (rule_at sheet) n word (row w v) next (λ j h. bare-lead c w (2 ^ n) strip v hw pl j (omega arith)) (κ t)
-      (lane-constant c w g hw hg t) lw refl ok r m zeros
+      ∙ law.lane-verdict c w g hc hg (rule_at sheet) n word (row w v) next (λ j h. bare-lead c w (2 ^ n) strip v hw pl j (omega arith)) (κ t) (lane-constant c w g hw hg t) lw refl ok r m zeros
 
   -- ---- the first inconsistent lane
 
@@ -154,8 +147,7 @@ module _ (n : ℕ) (sheet word strip v : List ℕ) (c w r : ℕ) (hw : c + 9 ≡
       new : List ℕ
       new = strips_by c (κ t) R
 
-      go : (b e : Bool) → is_inconsistent (pick b (writing new zeros (pick e (Unique g m) (Ambiguous g m d))) (leaving zeros (Inconsistent g m))).answer
-          ≡ not b
+      go : (b e : Bool) → is_inconsistent (pick b (pick e (writing new zeros (Unique g m)) (writing new zeros (Ambiguous g m d))) (leaving zeros (Inconsistent g m))).answer ≡ not b
       go true true = refl
       go true false = refl
       go false e = refl
@@ -168,24 +160,22 @@ module _ (n : ℕ) (sheet word strip v : List ℕ) (c w r : ℕ) (hw : c + 9 ≡
   all_lanes = length-tab 512 (λ (i : ℕ). i)
 
   -- where there is one
-  bad_lane : (t : ℕ) → t ≡ first_unsound c A → t < 512 → at_lane t (T t).answer ≡ LaneInconsistent t g m
+  told_bad : (t : ℕ) → t ≡ first_unsound c A → t < 512 → at_lane t (T t).answer ≡ LaneInconsistent t g m
   unfolding first_unsound
-  bad_lane t e h = ap (λ (a : Reply). at_lane t a.answer) (lane-verdict t h) ∙ go (consistent c (κ t) A) (not-true _ passed)
+  told_bad t e h = ap (λ (a : Reply). at_lane t a.answer) (lane-verdict t h) ∙ go (consistent c (κ t) A) (not-true _ passed)
     where
       -- its test passes
       passed : not (consistent c (κ t) A) ≡ true
       passed =
           let f : ℕ = first_unsound c A in
           let q : get_or (up_to 512) f 0 ≡ f = tab-at 512 (λ (i : ℕ). i) f 0 (omega (arith, e)) in
-          ap (λ (i : ℕ). not (consistent c (κ i) A)) (e ∙ sym q)
-          ∙ place_passes (λ (t : ℕ). not (consistent c (κ t) A)) (up_to 512) 0 (omega (arith, e, all_lanes))
+          ap (λ (i : ℕ). not (consistent c (κ i) A)) (e ∙ sym q) ∙ place_passes (λ (t : ℕ). not (consistent c (κ t) A)) (up_to 512) 0 (omega (arith, e, all_lanes))
 
       new : List ℕ
       new = strips_by c (κ t) R
 
-      go : (b : Bool) → b ≡ false → at_lane t (pick b (writing new zeros (foundOf g m d)) (leaving zeros (Inconsistent g m))).answer
-          ≡ LaneInconsistent t g m
-      go b z = ap (λ (b : Bool). at_lane t (pick b (writing new zeros (foundOf g m d)) (leaving zeros (Inconsistent g m))).answer) z
+      go : (b : Bool) → b ≡ false → at_lane t (pick b (pick (eqb d 0) (writing new zeros (Unique g m)) (writing new zeros (Ambiguous g m d))) (leaving zeros (Inconsistent g m))).answer ≡ LaneInconsistent t g m
+      go b z = ap (λ (b : Bool). at_lane t (pick b (pick (eqb d 0) (writing new zeros (Unique g m)) (writing new zeros (Ambiguous g m d))) (leaving zeros (Inconsistent g m))).answer) z
 
   -- ---- where there is none
 
@@ -197,11 +187,18 @@ module _ (n : ℕ) (sheet word strip v : List ℕ) (c w r : ℕ) (hw : c + 9 ≡
         let e : get_or (up_to 512) t 0 ≡ t = tab-at 512 (λ (i : ℕ). i) t 0 ht in
         not-false _ (ap (λ (i : ℕ). not (consistent c (κ i) A)) (sym e) ∙ place-first (λ (t : ℕ). not (consistent c (κ t) A)) (up_to 512) 0 t (omega arith))
 
-    written : (t : ℕ) → t < 512 → T t ≡ writing (strips_by c (κ t) R) zeros (foundOf g m d)
+    written : (t : ℕ) → t < 512 → T t ≡ pick (eqb d 0) (writing (strips_by c (κ t) R) zeros (Unique g m)) (writing (strips_by c (κ t) R) zeros (Ambiguous g m d))
     written t ht = lane-verdict t ht ∙ rw (sound t ht) refl
 
+    answer-is : (t : ℕ) → t < 512 → (T t).answer ≡ pick (eqb d 0) (Unique g m) (Ambiguous g m d)
+    answer-is t ht = ap (λ (a : Reply). a.answer) (written t ht) ∙ go (eqb d 0)
+      where
+        go : (b : Bool) → (pick b (writing (strips_by c (κ t) R) zeros (Unique g m)) (writing (strips_by c (κ t) R) zeros (Ambiguous g m d))).answer ≡ pick b (Unique g m) (Ambiguous g m d)
+        go true = refl
+        go false = refl
+
     settled_is : (t : ℕ) → t < 512 → (j : ℕ) → j < 2 ^ n → settled_in n T t j ≡ settled_by c (κ t) (at R j)
-    settled_is t ht j h = ap (λ (a : Reply). get_or a.bytes j 0) (written t ht) ∙ front
+    settled_is t ht j h = ap (λ (a : Reply). get_or a.bytes j 0) (written t ht) ∙ go (eqb d 0) ∙ front
       where
         f : Row → ℕ
         f = settled_by c (κ t)
@@ -209,13 +206,16 @@ module _ (n : ℕ) (sheet word strip v : List ℕ) (c w r : ℕ) (hw : c + 9 ≡
         new : List ℕ
         new = strips_by c (κ t) R
 
+        go : (b : Bool) → get_or (pick b (writing new zeros (Unique g m)) (writing new zeros (Ambiguous g m d))).bytes j 0 ≡ get_or (new ++ drop (length new) zeros) j 0
+        go true = refl
+        go false = refl
+
         l : length (map f R) ≡ 2 ^ n
         l = length-map R f ∙ long_rest
 
         front : get_or (new ++ drop (length new) zeros) j 0 ≡ f (at R j)
         front =
-            ap (λ (x : List ℕ). get_or x j 0) (append_assoc (map f R ++ map (first_by c (κ t)) R) (map (last_by c (κ t)) R) (drop (length new) zeros)
-            ∙ append_assoc (map f R) (map (first_by c (κ t)) R) _)
+            ap (λ (x : List ℕ). get_or x j 0) (append_assoc (map f R ++ map (first_by c (κ t)) R) (map (last_by c (κ t)) R) (drop (length new) zeros) ∙ append_assoc (map f R) (map (first_by c (κ t)) R) _)
             ∙ get_or-append (map f R) _ 0 j (omega (arith, l)) ∙ get_or_map f R j [] 0 (omega (arith, long_rest))
 
     open_is : (j : ℕ) → j < 2 ^ n → open_at n T j ≡ led c (at R j)
@@ -253,8 +253,8 @@ module _ (n : ℕ) (sheet word strip v : List ℕ) (c w r : ℕ) (hw : c + 9 ≡
       whole = writing (repaired n T) out (T 0).answer
 
       read : Reply
-      read = writing (row_repaired c R) out (foundOf g m d)
+      read = writing (row_repaired c R) out (pick (eqb d 0) (Unique g m) (Ambiguous g m d))
 
       go : (b : Bool) → ltb lane 512 ≡ b → pick b (leaving out (at_lane lane (T lane).answer)) whole ≡ pick b (leaving out (LaneInconsistent lane g m)) read
-      go true q = ap (leaving out) (bad_lane lane refl (ltb-true lane 512 q))
-      go false q = ap₂ (λ (l : List ℕ) (a : Answer). writing l out a) (repaired-is q) (ap (λ (a : Reply). a.answer) (written q 0 (omega arith)))
+      go true q = ap (leaving out) (told_bad lane refl (ltb-true lane 512 q))
+      go false q = ap₂ (λ (l : List ℕ) (a : Answer). writing l out a) (repaired-is q) (answer-is q 0 (omega arith))

@@ -30,15 +30,13 @@ pub record PutUpTo (k to at : ℕ) (strip v v' : List ℕ) : Type 0 where
 pub put-start : (to at : ℕ) (strip v : List ℕ) → PutUpTo 0 to at strip v v
 put-start to at strip v = record { size = refl; new = λ i p. absurd (omega arith); old = λ p h. refl }
 
-pub put_turn : {k to at x : ℕ} {strip v v' : List ℕ} → PutUpTo k to at strip v v' → k < 8 → to + 8 ≤ length v → Holds 8 strip (at + 8 * k) x
-    → PutUpTo (k + 1) to at strip v (set v' (to + k) x)
+pub put_turn : {k to at x : ℕ} {strip v v' : List ℕ} → PutUpTo k to at strip v v' → k < 8 → to + 8 ≤ length v → Holds 8 strip (at + 8 * k) x → PutUpTo (k + 1) to at strip v (set v' (to + k) x)
 put_turn {k} {to} {at} {x} {strip} {v} {v'} u h r e =
     let s = u.size in
     record {
       size = length-set v' (to + k) x ∙ u.size;
       new = λ i p. let q : i ≤ k = omega arith in go i (eq-or-lt_of_le q);
-      old =
-          λ p q. get_or-set_other v' (to + k) p x 0 (λ (z : p ≡ to + k). ⊎_elim (λ (a : p < to). omega arith) (λ (a : to + 8 ≤ p). omega arith) q) ∙ u.old p q;
+      old = λ p q. get_or-set_other v' (to + k) p x 0 (λ (z : p ≡ to + k). ⊎_elim (λ (a : p < to). omega arith) (λ (a : to + 8 ≤ p). omega arith) q) ∙ u.old p q;
     }
   where
     go : (i : ℕ) → (i ≡ k) ⊎ (i < k) → Holds 8 strip (at + 8 * i) (get_or (set v' (to + k) x) (to + i) 0)
@@ -56,16 +54,13 @@ pub record PlacedUpTo (j c w n : ℕ) (strip v : List ℕ) : Type 0 where
 
 pub place-start : (c w n : ℕ) (strip v v' : List ℕ) → v' ≡ zeroed v 0 (length v) → PlacedUpTo 0 c w n strip v'
 place-start c w n strip v v' e =
-    let z : v' ≡ replicate (length v) 0 = e ∙ zeroed-fits v 0 (length v) (omega arith)
-    ∙ paste_all v (replicate (length v) 0) (length v) refl (length-replicate (length v) 0) in
+    let z : v' ≡ replicate (length v) 0 = e ∙ zeroed-fits v 0 (length v) (omega arith) ∙ paste_all v (replicate (length v) 0) (length v) refl (length-replicate (length v) 0) in
     record { bare = λ i q h k. ap (λ (l : List ℕ). get_or l (i * w + q) 0) z ∙ get_or-nought (length v) (i * w + q); lanes = λ i k p h. absurd (omega arith) }
 
-module _ {j c w n : ℕ} {strip v v' : List ℕ} (u : PlacedUpTo j c w n strip v) (hj : j < n) (hw : c + 9 ≡ w)
-    (o : PutLanes (j * w + (c + 1)) (j * 64) strip v v') where
+module _ {j c w n : ℕ} {strip v v' : List ℕ} (u : PlacedUpTo j c w n strip v) (hj : j < n) (hw : c + 9 ≡ w) (o : PutLanes (j * w + (c + 1)) (j * 64) strip v v') where
   -- a place before the record's words, or behind them
   outside : (i q : ℕ) → (i ≡ j → ⊥) → q < w → (i * w + q < j * w + (c + 1)) ⊎ (j * w + (c + 1) + 8 ≤ i * w + q)
-  outside i q ne h =
-      ⊎_elim (λ (a : i < j). let f = row_fit i j w a in inl (omega arith)) (λ (a : j < i). let f = row_fit j i w a in inr (omega arith)) (lt_or_gt i j ne)
+  outside i q ne h = ⊎_elim (λ (a : i < j). let f = row_fit i j w a in inl (omega arith)) (λ (a : j < i). let f = row_fit j i w a in inr (omega arith)) (lt_or_gt i j ne)
 
   pub place_turn : PlacedUpTo (j + 1) c w n strip v'
   place_turn =
@@ -79,12 +74,8 @@ module _ {j c w n : ℕ} {strip v v' : List ℕ} (u : PlacedUpTo j c w n strip v
       go i q h k (inr ne) = o.old (i * w + q) (outside i q ne (omega arith)) ∙ u.bare i q h k
 
       at : (i k : ℕ) → k < 8 → (i ≡ j) ⊎ (i < j) → Holds 8 strip (i * 64 + 8 * k) (get_or v' (i * w + (c + 1 + k)) 0)
-      at i k h (inl e) =
-          let z : j * w + (c + 1 + k) ≡ j * w + (c + 1) + k = omega arith in
-          rw e (subst (λ (p : ℕ). Holds 8 strip (j * 64 + 8 * k) (get_or v' p 0)) (sym z) (o.new k h))
-      at i k h (inr p) =
-          subst (Holds 8 strip (i * 64 + 8 * k)) (sym (o.old (i * w + (c + 1 + k)) (outside i (c + 1 + k) (λ (z : i ≡ j). omega arith) (omega arith))))
-          (u.lanes i k p h)
+      at i k h (inl e) = let z : j * w + (c + 1 + k) ≡ j * w + (c + 1) + k = omega arith in rw e (subst (λ (p : ℕ). Holds 8 strip (j * 64 + 8 * k) (get_or v' p 0)) (sym z) (o.new k h))
+      at i k h (inr p) = subst (Holds 8 strip (i * 64 + 8 * k)) (sym (o.old (i * w + (c + 1 + k)) (outside i (c + 1 + k) (λ (z : i ≡ j). omega arith) (omega arith)))) (u.lanes i k p h)
 
 pub place-all : {j c w n : ℕ} {strip v : List ℕ} → PlacedUpTo j c w n strip v → n ≤ j → Placed c w n strip v
 place-all u h = record { bare = u.bare; lanes = λ i k p q. u.lanes i k (omega arith) q }

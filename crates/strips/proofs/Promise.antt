@@ -1,11 +1,9 @@
--- What follows from the promise of `repair`: of any answer a, and bytes x of the output after the call. Premise of all but the first three: no fault of
--- form, so
+-- What follows from the promise of `repair`: of any answer a, and bytes x of the output after the call. Premise of all but the first three: no fault of form, so
 -- that no refusal but 18 applies.
 --     repair_determined     any two results that the promise allows are equal
 --     repair_untouched      what is refused leaves the output as found
 --     lost_ignored          two strips that differ in lost records alone get the same reply
---     Laned, each_lane      each lane's answer is what any result of `decode` on that lane alone gives: code, g, m, d and settled places; its demand 3 is
---                           why a
+--     Laned, each_lane      each lane's answer is what any result of `decode` on that lane alone gives: code, g, m, d and settled places; its demand 3 is why a
 --                           record is settled in every lane or in none
 --     first_lane            2 names the first lane that `decode` calls inconsistent
 --     whole_unmarked        0 exactly where no record is marked
@@ -42,8 +40,7 @@ use Rattle.meaning.proofs.Demands.{code, g_of_lem, m_of_lem, d_of_lem, over, und
 use Rattle.verdict.proofs.Listing.{common-same}
 use Rattle.lanes.specs.Lanes.{up_to, packed}
 use Rattle.lanes.proofs.Spelling.{packed_ext, packed-bits}
-use Rattle.strips.specs.Repairing.{lane_bit, lane_of, repair_form, repair_refusals, is_inconsistent, at_lane, settled_in}
-use Rattle.strips.specs.Repairing.{open_at, byte_at, record_at, repaired, first_bad, strip_reply, lane_reply, repairing}
+use Rattle.strips.specs.Repairing.{lane_bit, lane_of, repair_form, repair_refusals, is_inconsistent, at_lane, settled_in, open_at, byte_at, record_at, repaired, first_bad, strip_reply, lane_reply, repairing}
 use Rattle.strips.proofs.Faults.{lanes-erased, lane-formed, marks-many}
 use Rattle.strips.proofs.Kept.{record_long, reply_below}
 
@@ -74,11 +71,8 @@ pub lost_ignored : (n : ℕ) (s : List ℕ) (r c : ℕ) (strip strip' lost out :
 unfolding repairing repair_refusals
 lost_ignored n s r c strip strip' lost out l h =
     let e = same-lane strip strip' lost h in
-    ap₂ (λ (k : ℕ) (w : List ℕ). first_of (leaving out) (repair_form n s r c k lost
-    (length out) ++ (record { applies = ltb c (unknowns n (rules n s) w); answer = TooMany (unknowns n (rules n s) w) } ∷ [])) (strip_reply n
-    (lane_reply n s r c strip lost) out)) l (e 0 (omega arith))
-    ∙ ap (first_of (leaving out) (repair_refusals n s r c strip' lost out)) (reply_below n (lane_reply n s r c strip lost) (lane_reply n s r c strip' lost)
-    (λ t p. ap (λ (w : List ℕ). decoding n s r c w (replicate (3 * 2 ^ n) 0)) (e t p)) out)
+    ap₂ (λ (k : ℕ) (w : List ℕ). first_of (leaving out) (repair_form n s r c k lost (length out) ++ (record { applies = ltb c (unknowns n (rules n s) w); answer = TooMany (unknowns n (rules n s) w) } ∷ [])) (strip_reply n (lane_reply n s r c strip lost) out)) l (e 0 (omega arith))
+    ∙ ap (first_of (leaving out) (repair_refusals n s r c strip' lost out)) (reply_below n (lane_reply n s r c strip lost) (lane_reply n s r c strip' lost) (λ t p. ap (λ (w : List ℕ). decoding n s r c w (replicate (3 * 2 ^ n) 0)) (e t p)) out)
 
 -- ---- one lane, with two buffers
 
@@ -90,8 +84,7 @@ module _ (n g m : ℕ) (o o' : List ℕ) where
   same_answer (x ∷ y ∷ cs) = refl
 
 -- where a verdict is not 2 there are candidates, and it is 0 or 1
-some-agree : (n g m : ℕ) (o : List ℕ) (cs : List (List Bool)) → is_inconsistent (verdict n g m cs o).answer ≡ false
-    → (0 < length cs) × (code (verdict n g m cs o) ≤ 1)
+some-agree : (n g m : ℕ) (o : List ℕ) (cs : List (List Bool)) → is_inconsistent (verdict n g m cs o).answer ≡ false → (0 < length cs) × (code (verdict n g m cs o) ≤ 1)
 unfolding verdict
 some-agree n g m o [] h = absurd (true≢false h)
 some-agree n g m o (x ∷ []) h = (omega arith, omega arith)
@@ -115,19 +108,16 @@ accepted n g m o [] h = absurd (omega arith)
 accepted n g m o (x ∷ []) h = omega arith
 accepted n g m o (x ∷ y ∷ cs) h = omega arith
 
-module _ (n : ℕ) (s : List ℕ) (r c : ℕ) (w o o' : List ℕ) (ok : refuses (formRefusals n s r c w (length o)) ≡ false)
-    (ok' : refuses (formRefusals n s r c w (length o')) ≡ false) where
+module _ (n : ℕ) (s : List ℕ) (r c : ℕ) (w o o' : List ℕ) (ok : refuses (formRefusals n s r c w (length o)) ≡ false) (ok' : refuses (formRefusals n s r c w (length o')) ≡ false) where
   abbrev G : ℕ
   G = unknowns n (rules n s) w
 
   pub any_buffer : (decoding n s r c w o).answer ≡ (decoding n s r c w o').answer
   any_buffer = ⊎_elim
-      (λ (h : G ≤ c). ap (λ (a : Reply). a.answer) (under n s r c w o ok h)
-      ∙ same_answer n G (equations n (rules n s) r w) o o' (candidates n (rules n s) r w) ∙ sym (ap (λ (a : Reply). a.answer) (under n s r c w o' ok' h)))
+      (λ (h : G ≤ c). ap (λ (a : Reply). a.answer) (under n s r c w o ok h) ∙ same_answer n G (equations n (rules n s) r w) o o' (candidates n (rules n s) r w) ∙ sym (ap (λ (a : Reply). a.answer) (under n s r c w o' ok' h)))
       (λ (h : c < G). ap (λ (a : Reply). a.answer) (over n s r c w o ok h) ∙ sym (ap (λ (a : Reply). a.answer) (over n s r c w o' ok' h))) (le_or_lt G c)
 
-  pub any_settled : G ≤ c → code (decoding n s r c w o) ≤ 1 → (j : ℕ) → j < 2 ^ n
-      → get_or (decoding n s r c w o).bytes j 0 ≡ get_or (decoding n s r c w o').bytes j 0
+  pub any_settled : G ≤ c → code (decoding n s r c w o) ≤ 1 → (j : ℕ) → j < 2 ^ n → get_or (decoding n s r c w o).bytes j 0 ≡ get_or (decoding n s r c w o').bytes j 0
   any_settled h k j l =
       let cs = candidates n (rules n s) r w in
       let m = equations n (rules n s) r w in
@@ -152,14 +142,12 @@ agree_at (v ∷ w) (b ∷ x) zero k a l m e h = go v b (and_l (fits v b) _ a) e
     go (suc (suc v)) b f e = absurd (omega arith)
 
 -- and so it is settled
-settled_read : (n : ℕ) (ks : List Rule) (r : ℕ) (w : List ℕ) (j k : ℕ) → 0 < length (candidates n ks r w) → length w ≡ 2 ^ n → j < 2 ^ n → get_or w j 2 ≡ k
-    → k < 2 → settled_at (candidates n ks r w) j ≡ k
+settled_read : (n : ℕ) (ks : List Rule) (r : ℕ) (w : List ℕ) (j k : ℕ) → 0 < length (candidates n ks r w) → length w ≡ 2 ^ n → j < 2 ^ n → get_or w j 2 ≡ k → k < 2 → settled_at (candidates n ks r w) j ≡ k
 settled_read n ks r w j k some l h e low =
     let (x, m) = head (candidates n ks r w) some in
     let (v, ev) = bit_of k low in
     common-same (λ (y : List Bool). get_or y j false) (candidates n ks r w) v x m
-    (λ y q. let ((ly, _), a) = (candidate_iff n ks r w y).0 q in bit_inj (get_or y j false) v (agree_at w y j k a (omega arith) (omega arith) e low ∙ sym ev))
-    ∙ ev
+    (λ y q. let ((ly, _), a) = (candidate_iff n ks r w y).0 q in bit_inj (get_or y j false) v (agree_at w y j k a (omega arith) (omega arith) e low ∙ sym ev)) ∙ ev
   where
     head : (cs : List (List Bool)) → 0 < length cs → (x : List Bool) × Memᴰ x cs
     head [] h = absurd (omega arith)
@@ -188,8 +176,7 @@ packed-bit (suc k) f h zero l =
 packed-bit (suc k) f h (suc b) l =
     let z = h 0 (omega arith) in
     let e : (f 0 + packed k (λ (i : ℕ). f (suc i)) * 2) / 2 ≡ packed k (λ (i : ℕ). f (suc i)) = omega arith in
-    bit-suc (f 0 + packed k (λ (i : ℕ). f (suc i)) * 2) b ∙ ap (λ (y : ℕ). bit_at y b) e
-    ∙ packed-bit k (λ (i : ℕ). f (suc i)) (λ i p. h (suc i) (omega arith)) b (omega arith)
+    bit-suc (f 0 + packed k (λ (i : ℕ). f (suc i)) * 2) b ∙ ap (λ (y : ℕ). bit_at y b) e ∙ packed-bit k (λ (i : ℕ). f (suc i)) (λ i p. h (suc i) (omega arith)) b (omega arith)
 
 -- the mark of record j
 abbrev pub mark_at : ℕ → List ℕ → ℕ → ℕ
@@ -211,8 +198,7 @@ module _ (n : ℕ) (lane : ℕ → Reply) (rest x : List ℕ) (e : x ≡ repaire
   record_at_lem : (j : ℕ) → j < 2 ^ n → row 64 x j ≡ record_at n lane j
   record_at_lem j h =
       let l : length R ≡ 2 ^ n = length-tab (2 ^ n) (record_at n lane) in
-      sym (tab-at (2 ^ n) (row 64 x) j [] h) ∙ ap (λ (rs : List (List ℕ)). get_or rs j [])
-      (ap₂ (λ (k : ℕ) (y : List ℕ). rows 64 k y) (sym l) spread ∙ rows_front 64 R (M ++ rest) wide) ∙ tab-at (2 ^ n) (record_at n lane) j [] h
+      sym (tab-at (2 ^ n) (row 64 x) j [] h) ∙ ap (λ (rs : List (List ℕ)). get_or rs j []) (ap₂ (λ (k : ℕ) (y : List ℕ). rows 64 k y) (sym l) spread ∙ rows_front 64 R (M ++ rest) wide) ∙ tab-at (2 ^ n) (record_at n lane) j [] h
 
   byte-at : (j i : ℕ) → j < 2 ^ n → i < 64 → get_or x (j * 64 + i) 0 ≡ get_or (record_at n lane j) i 0
   byte-at j i h k = sym (get_or_part x (j * 64) 64 i k) ∙ ap (λ (y : List ℕ). get_or y i 0) (record_at_lem j h)
@@ -221,8 +207,7 @@ module _ (n : ℕ) (lane : ℕ → Reply) (rest x : List ℕ) (e : x ≡ repaire
   mark_is j h =
       let l : length (flatten R) ≡ 2 ^ n * 64 = length-flatten 64 R wide ∙ ap (λ (k : ℕ). k * 64) (length-tab (2 ^ n) (record_at n lane)) in
       let lm : length M ≡ 2 ^ n = length-tab (2 ^ n) (λ (j : ℕ). bit (open_at n lane j)) in
-      ap (λ (y : List ℕ). get_or y (2 ^ n * 64 + j) 0) spread ∙ ap (λ (k : ℕ). get_or (flatten R ++ (M ++ rest)) (k + j) 0) (sym l)
-      ∙ get_or-append-add (flatten R) (M ++ rest) j 0
+      ap (λ (y : List ℕ). get_or y (2 ^ n * 64 + j) 0) spread ∙ ap (λ (k : ℕ). get_or (flatten R ++ (M ++ rest)) (k + j) 0) (sym l) ∙ get_or-append-add (flatten R) (M ++ rest) j 0
       ∙ get_or-append M rest 0 j (omega arith) ∙ tab-at (2 ^ n) (λ (j : ℕ). bit (open_at n lane j)) j 0 h
 
   module _ (j : ℕ) (h : j < 2 ^ n) where
@@ -230,20 +215,17 @@ module _ (n : ℕ) (lane : ℕ → Reply) (rest x : List ℕ) (e : x ≡ repaire
     open_zeros q = record_at_lem j h ∙ ap (λ (b : Bool). pick b (replicate 64 0) (tab 64 (byte_at n lane j))) q
 
     closed_byte : open_at n lane j ≡ false → (i : ℕ) → i < 64 → get_or x (j * 64 + i) 0 ≡ byte_at n lane j i
-    closed_byte q i k =
-        byte-at j i h k ∙ ap (λ (b : Bool). get_or (pick b (replicate 64 0) (tab 64 (byte_at n lane j))) i 0) q ∙ tab-at 64 (byte_at n lane j) i 0 k
+    closed_byte q i k = byte-at j i h k ∙ ap (λ (b : Bool). get_or (pick b (replicate 64 0) (tab 64 (byte_at n lane j))) i 0) q ∙ tab-at 64 (byte_at n lane j) i 0 k
 
     closed_bit : open_at n lane j ≡ false → ((t : ℕ) → t < 512 → settled_in n lane t j < 2) → (t : ℕ) → t < 512 → lane_bit x j t ≡ settled_in n lane t j
     closed_bit q low t k =
         let z : 8 * (t / 8) + t % 8 ≡ t = omega arith in
-        ap (λ (y : ℕ). bit_at y (t % 8)) (closed_byte q (t / 8) (omega arith))
-        ∙ packed-bit 8 (λ (b : ℕ). settled_in n lane (8 * (t / 8) + b) j) (λ i l. low (8 * (t / 8) + i) (omega arith)) (t % 8) (omega arith)
+        ap (λ (y : ℕ). bit_at y (t % 8)) (closed_byte q (t / 8) (omega arith)) ∙ packed-bit 8 (λ (b : ℕ). settled_in n lane (8 * (t / 8) + b) j) (λ i l. low (8 * (t / 8) + i) (omega arith)) (t % 8) (omega arith)
         ∙ ap (λ (i : ℕ). settled_in n lane i j) z
 
 -- ---- a strip without a fault of form
 
-module _ (n : ℕ) (s : List ℕ) (r c : ℕ) (strip lost out x : List ℕ) (a : Answer) (p : reply x a ≡ repairing n s r c strip lost out)
-    (ok : refuses (repair_form n s r c (length strip) lost (length out)) ≡ false) where
+module _ (n : ℕ) (s : List ℕ) (r c : ℕ) (strip lost out x : List ℕ) (a : Answer) (p : reply x a ≡ repairing n s r c strip lost out) (ok : refuses (repair_form n s r c (length strip) lost (length out)) ≡ false) where
   abbrev A : Reply
   A = reply x a
 
@@ -263,9 +245,9 @@ module _ (n : ℕ) (s : List ℕ) (r c : ℕ) (strip lost out x : List ℕ) (a :
   good t = lane-formed n s r c strip lost out ok t zeros room
 
   -- 18, or what the lanes say
-  over_or_lanes : A ≡ pick (ltb c (U 0)) (leaving out (TooMany (U 0))) (strip_reply n L out)
+  told : A ≡ pick (ltb c (U 0)) (leaving out (TooMany (U 0))) (strip_reply n L out)
   unfolding repairing repair_refusals
-  over_or_lanes = p ∙ past_none (leaving out) (repair_form n s r c (length strip) lost (length out)) _ _ ok
+  told = p ∙ past_none (leaving out) (repair_form n s r c (length strip) lost (length out)) _ _ ok
 
   same_u : (t : ℕ) → U t ≡ U 0
   same_u t = same-unknowns n s r (lane_of strip lost t) (lane_of strip lost 0) (lanes-erased strip lost t 0)
@@ -295,7 +277,7 @@ module _ (n : ℕ) (s : List ℕ) (r c : ℕ) (strip lost out x : List ℕ) (a :
     settled_is t k j l = ap (λ (v : Reply). get_or v.bytes j 0) (spoken t) ∙ verdict-settled n _ _ zeros (cs t) k j l
 
     replied : A ≡ strip_reply n L out
-    replied = over_or_lanes ∙ ap (λ (b : Bool). pick b (leaving out (TooMany (U 0))) (strip_reply n L out)) (le-ltb c (U 0) h)
+    replied = told ∙ ap (λ (b : Bool). pick b (leaving out (TooMany (U 0))) (strip_reply n L out)) (le-ltb c (U 0) h)
 
     abbrev K : ℕ
     K = first_bad n L
@@ -323,8 +305,7 @@ module _ (n : ℕ) (s : List ℕ) (r c : ℕ) (strip lost out x : List ℕ) (a :
     at_bad : K < 512 → code (L K) ≡ 2
     at_bad l =
         let e : get_or (up_to 512) K 0 ≡ K = tab-at 512 (λ (i : ℕ). i) K 0 l in
-        eqb-true (code (L K)) 2 (ap (λ (i : ℕ). is_inconsistent (L i).answer) (sym e)
-        ∙ place_passes (λ (t : ℕ). is_inconsistent (L t).answer) (up_to 512) 0 (omega (arith, all_lanes)))
+        eqb-true (code (L K)) 2 (ap (λ (i : ℕ). is_inconsistent (L i).answer) (sym e) ∙ place_passes (λ (t : ℕ). is_inconsistent (L t).answer) (up_to 512) 0 (omega (arith, all_lanes)))
 
     -- ---- where no lane is inconsistent
 
@@ -335,8 +316,7 @@ module _ (n : ℕ) (s : List ℕ) (r c : ℕ) (strip lost out x : List ℕ) (a :
       x_is : x ≡ repaired n L ++ drop (length (repaired n L)) out
       x_is = ap (λ (v : Reply). v.bytes) (sound_told late)
 
-      alike : (t : ℕ) → t < 512 → (code (L t) ≡ code (L 0)) × (d_of_lem (L t) ≡ d_of_lem (L 0))
-          × ((j : ℕ) → j < 2 ^ n → (settled_in n L t j ≡ 2) ↔ (settled_in n L 0 j ≡ 2))
+      alike : (t : ℕ) → t < 512 → (code (L t) ≡ code (L 0)) × (d_of_lem (L t) ≡ d_of_lem (L 0)) × ((j : ℕ) → j < 2 ^ n → (settled_in n L t j ≡ 2) ↔ (settled_in n L 0 j ≡ 2))
       alike t l = (fate t).accepted (fine t l).1 (fine 0 (omega arith)).1
 
       -- a settled record has bits
@@ -377,8 +357,7 @@ module _ (n : ℕ) (s : List ℕ) (r c : ℕ) (strip lost out x : List ℕ) (a :
 
     lane_over : c < U 0 → Laned t y b
     lane_over h =
-        let e : A ≡ leaving out (TooMany (U 0)) = over_or_lanes
-        ∙ ap (λ (d : Bool). pick d (leaving out (TooMany (U 0))) (strip_reply n L out)) (lt-ltb c (U 0) h) in
+        let e : A ≡ leaving out (TooMany (U 0)) = told ∙ ap (λ (d : Bool). pick d (leaving out (TooMany (U 0))) (strip_reply n L out)) (lt-ltb c (U 0) h) in
         let f : L t ≡ leaving zeros (TooMany (U t)) = over n s r c (lane_of strip lost t) zeros (good t) (omega (arith, same_u t)) in
         let ca : code A ≡ 18 = ap code e in
         let cb : code B ≡ 18 = by (λ (v : Answer). get_or (numbersOf v) 0 0) ∙ ap code f in
@@ -436,46 +415,29 @@ module _ (n : ℕ) (s : List ℕ) (r c : ℕ) (strip lost out x : List ℕ) (a :
         where
           value : (j : ℕ) → j < 2 ^ n → get_or y j 0 ≡ settled_in n L t j
           value j k =
-              let cb : code (decoding n s r c (lane_of strip lost t) o) ≤ 1 = omega
-              (arith, ap code (sym q), by (λ (v : Answer). get_or (numbersOf v) 0 0), (fine h l t ht).1) in
+              let cb : code (decoding n s r c (lane_of strip lost t) o) ≤ 1 = omega (arith, ap code (sym q), by (λ (v : Answer). get_or (numbersOf v) 0 0), (fine h l t ht).1) in
               ap (λ (v : Reply). get_or v.bytes j 0) q ∙ any_settled n s r c (lane_of strip lost t) o zeros formed (good t) (low h t) cb j k
 
     -- each lane's answer is what the decoder gives that lane alone
     pub each_lane : Laned t y b
-    each_lane =
-        ⊎_elim (λ (h : U 0 ≤ c). ⊎_elim (λ (l : 512 ≤ K h). lane-sound h l) (λ (l : K h < 512). lane_bad h l) (le_or_lt 512 (K h)))
-        (λ (h : c < U 0). lane_over h) (le_or_lt (U 0) c)
+    each_lane = ⊎_elim (λ (h : U 0 ≤ c). ⊎_elim (λ (l : 512 ≤ K h). lane-sound h l) (λ (l : K h < 512). lane_bad h l) (le_or_lt 512 (K h))) (λ (h : c < U 0). lane_over h) (le_or_lt (U 0) c)
 
     -- 2 names the first lane that the decoder calls inconsistent
     pub first_lane : code A ≡ 2 → (t ≡ get_or (numbersOf a) 1 0 → code B ≡ 2) × (t < get_or (numbersOf a) 1 0 → code B ≡ 2 → ⊥)
-    first_lane z =
-        ⊎_elim (λ (h : U 0 ≤ c). ⊎_elim (λ (l : 512 ≤ K h). absurd (omega (arith, ap code (sound_told h l), (fine h l 0 (omega arith)).1)))
-        (λ (l : K h < 512). named h l) (le_or_lt 512 (K h)))
-        (λ (h : c < U 0). absurd (omega (
-          arith,
-          (lane_over h).over.1 (by (λ (v : Answer). get_or (numbersOf v) 0 0)
-              ∙ ap code (over n s r c (lane_of strip lost t) zeros (good t) (omega (arith, same_u t)))),
-        ))) (le_or_lt (U 0) c)
+    first_lane z = ⊎_elim (λ (h : U 0 ≤ c). ⊎_elim (λ (l : 512 ≤ K h). absurd (omega (arith, ap code (sound_told h l), (fine h l 0 (omega arith)).1))) (λ (l : K h < 512). named h l) (le_or_lt 512 (K h)))
+        (λ (h : c < U 0). absurd (omega (arith, (lane_over h).over.1 (by (λ (v : Answer). get_or (numbersOf v) 0 0) ∙ ap code (over n s r c (lane_of strip lost t) zeros (good t) (omega (arith, same_u t))))))) (le_or_lt (U 0) c)
       where
         named : (h : U 0 ≤ c) → K h < 512 → (t ≡ get_or (numbersOf a) 1 0 → code B ≡ 2) × (t < get_or (numbersOf a) 1 0 → code B ≡ 2 → ⊥)
         named h l =
             let e : get_or (numbersOf a) 1 0 ≡ K h = ap (λ (v : Reply). get_or (numbersOf v.answer) 1 0) (bad_told h l) in
-            let cb : code B ≡ code (L t) = by (λ (v : Answer). get_or (numbersOf v) 0 0) in (
-              λ u. cb ∙ ap (λ (i : ℕ). code (L i)) (u ∙ e)
-                  ∙ at_bad h l,
-              λ u v. true≢false (sym (eq-eqb (code (L t)) 2 (sym cb ∙ v)) ∙ before_bad h t ht (omega arith)),
-            )
+            let cb : code B ≡ code (L t) = by (λ (v : Answer). get_or (numbersOf v) 0 0) in
+            (λ u. cb ∙ ap (λ (i : ℕ). code (L i)) (u ∙ e) ∙ at_bad h l, λ u v. true≢false (sym (eq-eqb (code (L t)) 2 (sym cb ∙ v)) ∙ before_bad h t ht (omega arith)))
 
   -- ---- 0 exactly where no record is marked
 
   pub whole_unmarked : code A ≤ 1 → (code A ≡ 0) ↔ ((j : ℕ) → j < 2 ^ n → mark_at n x j ≡ 0)
-  whole_unmarked z =
-      ⊎_elim (λ (h : U 0 ≤ c). ⊎_elim (λ (l : 512 ≤ K h). both h l) (λ (l : K h < 512). absurd (omega (arith, ap code (bad_told h l)))) (le_or_lt 512 (K h)))
-      (λ (h : c < U 0). absurd (omega (
-        arith,
-        ap code (over_or_lanes
-            ∙ ap (λ (d : Bool). pick d (leaving out (TooMany (U 0))) (strip_reply n L out)) (lt-ltb c (U 0) h)),
-      ))) (le_or_lt (U 0) c)
+  whole_unmarked z = ⊎_elim (λ (h : U 0 ≤ c). ⊎_elim (λ (l : 512 ≤ K h). both h l) (λ (l : K h < 512). absurd (omega (arith, ap code (bad_told h l)))) (le_or_lt 512 (K h)))
+      (λ (h : c < U 0). absurd (omega (arith, ap code (told ∙ ap (λ (d : Bool). pick d (leaving out (TooMany (U 0))) (strip_reply n L out)) (lt-ltb c (U 0) h))))) (le_or_lt (U 0) c)
     where
       both : (h : U 0 ≤ c) → 512 ≤ K h → (code A ≡ 0) ↔ ((j : ℕ) → j < 2 ^ n → mark_at n x j ≡ 0)
       both h l =
@@ -487,8 +449,7 @@ module _ (n : ℕ) (s : List ℕ) (r c : ℕ) (strip lost out x : List ℕ) (a :
                 mark_is n L _ x (x_is h l) j d ∙ ap bit (ne_eqb (settled_in n L 0 j) 2 (λ v. one.0 w j d (sym (settled_is h 0 k j d) ∙ v))),
             λ u.
                 ap code e ∙ ap code (spoken h 0)
-                ∙ unique_code n _ _ zeros (cs h 0) (one.1 (λ j d v. marked (open_at n L j) (eq-eqb (settled_in n L 0 j) 2 (settled_is h 0 k j d ∙ v))
-                (sym (mark_is n L _ x (x_is h l) j d) ∙ u j d))),
+                ∙ unique_code n _ _ zeros (cs h 0) (one.1 (λ j d v. marked (open_at n L j) (eq-eqb (settled_in n L 0 j) 2 (settled_is h 0 k j d ∙ v)) (sym (mark_is n L _ x (x_is h l) j d) ∙ u j d))),
           )
         where
           marked : (b : Bool) → b ≡ true → bit b ≡ 0 → ⊥
@@ -497,15 +458,9 @@ module _ (n : ℕ) (s : List ℕ) (r c : ℕ) (strip lost out x : List ℕ) (a :
 
   -- ---- a record that was read is written as it is
 
-  pub read_kept : code A ≤ 1 → (j i : ℕ) → j < 2 ^ n → i < 64 → get_or lost j 0 ≡ 0 → get_or strip (j * 64 + i) 0 < 256
-      → get_or x (j * 64 + i) 0 ≡ get_or strip (j * 64 + i) 0
-  read_kept z j i hj hi e small-byte =
-      ⊎_elim (λ (h : U 0 ≤ c). ⊎_elim (λ (l : 512 ≤ K h). go h l) (λ (l : K h < 512). absurd (omega (arith, ap code (bad_told h l)))) (le_or_lt 512 (K h)))
-      (λ (h : c < U 0). absurd (omega (
-        arith,
-        ap code (over_or_lanes
-            ∙ ap (λ (d : Bool). pick d (leaving out (TooMany (U 0))) (strip_reply n L out)) (lt-ltb c (U 0) h)),
-      ))) (le_or_lt (U 0) c)
+  pub read_kept : code A ≤ 1 → (j i : ℕ) → j < 2 ^ n → i < 64 → get_or lost j 0 ≡ 0 → get_or strip (j * 64 + i) 0 < 256 → get_or x (j * 64 + i) 0 ≡ get_or strip (j * 64 + i) 0
+  read_kept z j i hj hi e small-byte = ⊎_elim (λ (h : U 0 ≤ c). ⊎_elim (λ (l : 512 ≤ K h). go h l) (λ (l : K h < 512). absurd (omega (arith, ap code (bad_told h l)))) (le_or_lt 512 (K h)))
+      (λ (h : c < U 0). absurd (omega (arith, ap code (told ∙ ap (λ (d : Bool). pick d (leaving out (TooMany (U 0))) (strip_reply n L out)) (lt-ltb c (U 0) h))))) (le_or_lt (U 0) c)
     where
       many : length lost ≡ 2 ^ n
       many = marks-many n s r c strip lost out ok
@@ -513,15 +468,12 @@ module _ (n : ℕ) (s : List ℕ) (r c : ℕ) (strip lost out x : List ℕ) (a :
       read : (h : U 0 ≤ c) → 512 ≤ K h → (t : ℕ) → t < 512 → settled_in n L t j ≡ lane_bit strip j t
       read h l t k =
           let v = (fine h l t k).0 in
-          let q : get_or (lane_of strip lost t) j 2 ≡ lane_bit strip j t = tab-at (length lost) _ j 2 (omega (arith, many))
-          ∙ ap (λ (d : Bool). pick d (lane_bit strip j t) 2) (eq-eqb (get_or lost j 0) 0 e) in
-          settled_is h t v j hj ∙ settled_read n (rules n s) r (lane_of strip lost t) j (lane_bit strip j t) v (length-tab (length lost) _ ∙ many) hj q
-          (omega arith)
+          let q : get_or (lane_of strip lost t) j 2 ≡ lane_bit strip j t = tab-at (length lost) _ j 2 (omega (arith, many)) ∙ ap (λ (d : Bool). pick d (lane_bit strip j t) 2) (eq-eqb (get_or lost j 0) 0 e) in
+          settled_is h t v j hj ∙ settled_read n (rules n s) r (lane_of strip lost t) j (lane_bit strip j t) v (length-tab (length lost) _ ∙ many) hj q (omega arith)
 
       go : (h : U 0 ≤ c) → 512 ≤ K h → get_or x (j * 64 + i) 0 ≡ get_or strip (j * 64 + i) 0
       go h l =
-          let oq : open_at n L j ≡ false = ne_eqb (settled_in n L 0 j) 2 (λ (u : settled_in n L 0 j ≡ 2). let v = read h l 0 (omega arith) in let w : lane_bit
-          strip j 0 < 2 = omega arith in omega arith) in
+          let oq : open_at n L j ≡ false = ne_eqb (settled_in n L 0 j) 2 (λ (u : settled_in n L 0 j ≡ 2). let v = read h l 0 (omega arith) in let w : lane_bit strip j 0 < 2 = omega arith in omega arith) in
           closed_byte n L _ x (x_is h l) j hj oq i hi
           ∙ packed_ext 8 (λ (b : ℕ). settled_in n L (8 * i + b) j) (bit_at (get_or strip (j * 64 + i) 0))
           (λ b k.

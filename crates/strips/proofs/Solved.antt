@@ -1,166 +1,139 @@
--- What is decided after `system` has solved the strip, on rows of w words: c of coefficients, one for the constant of all lanes, eight for the lanes.
--- `most` is the ceiling, and `word` says what is lost.
---     never_misfit     what no fault of form is found in fits together
---     Says, says       what the answer of `system` tells: more unknowns than the ceiling allows; or the rows are there, and the reply is read off them
---     counted-over, deciding_at, row_fits, within      the unknowns are counted first; there is room for the rows
---     rows_fewer                                       and for fewer rows
+-- What is decided after `system` has solved the strip, on rows of wd words: co of coefficients, one for the constant of all lanes, eight for the lanes.
+--     never_misfit     what no fault of form is found in fits
+--     too_many         more unknowns than the ceiling allows
+--     in_room          else the equations are there
+--     decided          and what is read off the rows is the reply
+--     over, formed-at, decided_at, row_fits, within      the unknowns are counted first; there is room for the rows
+--     rows_fewer                                         and for fewer rows
 use mathlib.Core.Path.{◌≡◌, refl, sym, ap, ap₂, ◌∙◌, subst}
-use Prim.Native.Nat.{ℕ, ◌+◌, ◌-◌, ◌*◌, ◌/◌, ◌^◌, ◌≤◌, ◌<◌}
+use Prim.Native.Nat.{ℕ, ◌+◌, ◌*◌, ◌/◌, ◌^◌, ◌≤◌, ◌<◌}
 use native.Mathlib.Nat.{add-mul, mul-le-mul}
 use native.Mathlib.Omega.{arith}
 use mathlib.Core.Bool.{true}
 use mathlib.Core.List.{List}
 use lib.ListN.{length, take, length-take}
 use lib.Pow.{pow_mono}
+use borrow.Author.Tests.{eq-eqb, le-leb, lt-ltb, le-ltb}
 use Rattle.bits.specs.Rows.{Row, row}
 use Rattle.gf2.specs.Solve.{Sys, solve}
-use Rattle.meaning.specs.Limits.{largest_n, largest_ceiling}
+use Rattle.meaning.specs.Limits.{largest_n, record_bytes, largest_ceiling}
 use Rattle.meaning.specs.Sheet.{rule_at, rules}
-use Rattle.meaning.specs.Open.{unknowns}
-use Rattle.meaning.specs.Answers.{Reply, leaving, foundOf}
-use Rattle.meaning.specs.Forms.{Formed}
-use Rattle.meaning.specs.declared.Answer.{Answer}
-use Rattle.meaning.specs.declared.Answer.TheVariants.{LaneInconsistent, TooMany}
-use Rattle.meaning.proofs.Refusals.{sized_over, sized_under}
+use Rattle.meaning.specs.Open.{unknowns, equations}
+use Rattle.meaning.specs.Answers.{Reply, leaving}
+use Rattle.meaning.specs.declared.Answer.TheVariants.{TooMany}
 use Rattle.model.specs.RowValues.{rows_out, rows_system}
+use Rattle.sheet.proofs.Shapes.{shaped_when}
 use Rattle.counting.specs.Counting.{counting}
+use Rattle.counting.proofs.Lengths.{counting-all}
 use Rattle.descent.specs.Descending.{widest}
-use Rattle.lanes.specs.Lanes.{row_reply, unsound_in, repaired_over}
-use Rattle.lanes.proofs.Reading.{lane_unsound, lanes-sound}
-use Rattle.system.specs.Solving.{longest_check, system_fits, leaves, solving}
+use Rattle.lanes.specs.Lanes.{row_reply, concluding}
+use Rattle.lanes.proofs.Fitting.{Fit, concluding-is}
+use Rattle.system.specs.Solving.{longest_check, fitting, leaves, solving}
 use Rattle.system.specs.declared.System.{System}
 use Rattle.system.specs.declared.System.TheVariants.{Misfit, Over, Solved}
 use Rattle.system.proofs.Testing.{length-checked, length_longest}
-use Rattle.system.proofs.LastStep.{counted-rows}
-use Rattle.system.proofs.Promise.{all_fit, Solution, solved-tells, over-tells, rank-few}
+use Rattle.system.proofs.LastStep.{whole}
+use Rattle.system.proofs.Promise.{all_fit, Solution, solved-tells, over-tells, rank_few}
 use Rattle.system.proofs.Promise as system
-use Rattle.decoder.specs.Rooms.{Rowed, Sliced}
-use Rattle.decoder.proofs.Deciding.{all-counted}
 use Rattle.strips.specs.Placing.{Placed}
-use Rattle.strips.specs.Deciding.{repair_deciding, Stripped}
+use Rattle.strips.specs.Deciding.{repair_deciding, Formed}
 use Rattle.strips.specs.Rooms.{most_words}
 use Rattle.strips.proofs.Lanewise.{bare-lead, verdict-lanes}
 
--- a is the answer of `system`; v and e are then the rows of the records and of the equations
-pub record Says (n : ℕ) (s : List ℕ) (r most c w : ℕ) (strip word out : List ℕ) (a : System) (v e : List ℕ) : Type 0 where
-  pub fits : a ≡ Misfit → ⊥
-  pub over : (g : ℕ) → a ≡ Over g → leaving out (TooMany g) ≡ repair_deciding n s r most strip word out
-  pub in_room : (g m rank : ℕ) → a ≡ Solved g m rank → m * w ≤ length e
-  pub pivots : (g m rank : ℕ) → a ≡ Solved g m rank → rank ≤ g
-  pub none : (g m rank : ℕ) → a ≡ Solved g m rank → {t : ℕ} → t ≡ unsound_in c w (take (m * w) e) → t < 512
-      → leaving out (LaneInconsistent t g m) ≡ repair_deciding n s r most strip word out
-  pub some : (g m rank : ℕ) → a ≡ Solved g m rank → {t : ℕ} → t ≡ unsound_in c w (take (m * w) e) → 512 ≤ t
-      → (l : List ℕ) (x : Answer) → l ≡ repaired_over c w v out → x ≡ foundOf g m (g - rank) → leaving l x ≡ repair_deciding n s r most strip word out
+module _ (co wd n : ℕ) (s : List ℕ) (r c : ℕ) (strip w out vals us eqs : List ℕ) (F : Formed n s r c (length strip) (length w) (length out)) (hw : co + 9 ≡ wd) (nw : wd ≤ widest) (lo : c ≤ 64 * co)
+    (lv : length vals ≡ 2 ^ n * wd) (lu : length us ≡ 2 ^ n * wd) (le : length eqs ≡ (2 ^ n + r) * wd)
+    (a : System) (v u e : List ℕ) (q : leaves a v u e ≡ solving n r c co wd s w vals us eqs) where
+  abbrev G : ℕ
+  G = unknowns n (rules n s) w
 
-module _ (n : ℕ) (s : List ℕ) (r most c w : ℕ) (strip word out vals us eqs : List ℕ) (F : Formed n s r most (length word))
-    (T : Stripped n (length strip) (length out))
-    (R : Rowed 9 most c w widest) (L : Sliced n r w (length vals) (length us) (length eqs)) (k : ℕ) (ek : k ≡ length word) (P : Placed c w k strip vals)
-    (a : System) (v u e : List ℕ) (q : leaves a v u e ≡ solving n r most c w s word vals us eqs) where
-  fit : system_fits n (length s) (length word) r most c w (length vals) (length us) (length eqs) ≡ true
-  fit =
-      let G = F.sheet in
-      all_fit n r most c w s word vals us eqs G.small G.long F.symbols (length-checked G.check) (omega (arith, R.behind)) R.narrow R.enough
-      L.rows_v L.rows_u L.rows_e
+  fit : fitting n (length s) (length w) r c co wd (length vals) (length us) (length eqs) ≡ true
+  fit = all_fit n r c co wd s w vals us eqs F.small F.long F.symbols (length-checked F.check) (omega arith) nw lo lv lu le
 
   pub never_misfit : {A : Type 0} → a ≡ Misfit → A
-  never_misfit x = system.never-misfit n r most c w s word vals us eqs fit a v u e q x
+  never_misfit x = system.never_misfit n r c co wd s w vals us eqs fit a v u e q x
 
-  too_many : (g : ℕ) → a ≡ Over g → leaving out (TooMany g) ≡ repair_deciding n s r most strip word out
+  pub too_many : (g : ℕ) → a ≡ Over g → leaving out (TooMany g) ≡ repair_deciding n s r c strip w out
   unfolding repair_deciding
   too_many g x =
-      let (k, h, o) = over-tells n r most c w s word vals us eqs fit a v u e q g x in
-      ap (λ (i : ℕ). leaving out (TooMany i)) k ∙ sym (sized_over most (unknowns n (rules n s) word) out _ h)
-
-  -- N records are placed
-  all_placed : Placed c w (2 ^ n) strip vals
-  all_placed = subst (λ (i : ℕ). Placed c w i strip vals) (ek ∙ F.symbols) P
+      let (k, h, o) = over-tells n r c co wd s w vals us eqs fit a v u e q g x in
+      ap (λ (i : ℕ). leaving out (TooMany i)) k ∙ sym (rw (lt-ltb c G h) refl)
 
   module _ (g m rank : ℕ) (x : a ≡ Solved g m rank) where
-    S : Solution n r most c w s word vals us eqs g m rank v u e
-    S = solved-tells n r most c w s word vals us eqs g m rank v u e (ap (λ (y : System). leaves y v u e) (sym x) ∙ q)
+    S : Solution n r c co wd s w vals us eqs g m rank v u e
+    S = solved-tells n r c co wd s w vals us eqs g m rank v u e (ap (λ (y : System). leaves y v u e) (sym x) ∙ q)
 
-    all_there : m * w ≤ length e
-    all_there = omega (arith, S.rows_e, length-take (m * w) e)
+    pub in_room : m * wd ≤ length e
+    in_room = omega (arith, S.rows_e, length-take (m * wd) e)
 
-    few_pivots : rank ≤ g
-    few_pivots =
-        rank-few n r most c w s word vals us eqs g m rank v u e S (λ j h. bare-lead c w (2 ^ n) strip vals R.behind all_placed j
-        (omega (arith, F.symbols)))
+    module _ (k : ℕ) (ek : k ≡ length w) (placed : Placed co wd k strip vals) where
+      pl : Placed co wd (2 ^ n) strip vals
+      pl = subst (λ (i : ℕ). Placed co wd i strip vals) (ek ∙ F.symbols) placed
 
-    abbrev E : List Row
-    E = rows_system c w (rule_at s) n word (row w vals) r
+      reads : Fit co wd g rank (length (take (m * wd) e)) (length v) (length out)
+      reads =
+          let some : 0 < wd = omega arith in
+          let (av, bv) = whole wd (2 ^ n) v some S.rows_v in
+          record {
+            wide = omega arith;
+            records = av;
+            roomy = let p = F.room in omega (arith, bv);
+            pivots = rank_few n r c co wd s w vals us eqs g m rank v u e S (λ j h. bare-lead co wd (2 ^ n) strip vals hw pl j (omega (arith, F.symbols)));
+            equations = (whole wd m (take (m * wd) e) some S.rows_e).0;
+          }
 
-    abbrev X : List Row
-    X = (rows_out c w (rule_at s) n word (row w vals)).block
-
-    -- what is read off the rows is what is to be decided
-    reply_decides : (y : Sys) → y ≡ solve c E X → row_reply c g m y out ≡ repair_deciding n s r most strip word out
-    unfolding repair_deciding
-    reply_decides y p =
-        ap (λ (z : Sys). row_reply c g m z out) p ∙ ap₂ (λ (i j : ℕ). row_reply c i j (solve c E X) out) S.unknown S.many
-        ∙ sym (verdict-lanes n s word strip vals c w r R.behind F.symbols F.sheet.ordered all_placed (omega (arith, S.unknown, S.few, R.enough))
-        out)
-        ∙ sym (sized_under most (unknowns n (rules n s) word) out _ (omega (arith, S.unknown, S.few)))
-
-    positive : 0 < w
-    positive = omega (arith, R.behind)
-
-    behind : c + 8 < w
-    behind = omega (arith, R.behind)
-
-    module _ {t : ℕ} (et : t ≡ unsound_in c w (take (m * w) e)) where
-      we : length (take (m * w) e) ≡ length (take (m * w) e) / w * w
-      we = (counted-rows w m (take (m * w) e) positive S.rows_e).0
-
-      one_unsound : t < 512 → leaving out (LaneInconsistent t g m) ≡ repair_deciding n s r most strip word out
-      one_unsound h = lane_unsound c w g m rank (take (m * w) e) v out behind we et h ∙ reply_decides _ S.system
-
-      all_sound : 512 ≤ t → (l : List ℕ) (x : Answer) → l ≡ repaired_over c w v out → x ≡ foundOf g m (g - rank)
-          → leaving l x ≡ repair_deciding n s r most strip word out
-      all_sound h l x p f =
-          let (wv, nv) = counted-rows w (2 ^ n) v positive S.rows_v in
-          lanes-sound c w g m rank (take (m * w) e) v out behind we et wv (omega (arith, nv, T.room)) h l x p f ∙ reply_decides _ S.system
-
-  pub says : Says n s r most c w strip word out a v e
-  says = record {
-    fits = λ x. never_misfit x;
-    over = too_many;
-    in_room = all_there;
-    pivots = few_pivots;
-    none = λ g m rank x et h. one_unsound g m rank x et h;
-    some = λ g m rank x et h l y p f. all_sound g m rank x et h l y p f;
-  }
+      pub decided : (y : Reply) → y ≡ concluding co wd g m rank (take (m * wd) e) v out → y ≡ repair_deciding n s r c strip w out
+      unfolding repair_deciding
+      decided y p =
+          let E : List Row = rows_system co wd (rule_at s) n w (row wd vals) r in
+          let X : List Row = (rows_out co wd (rule_at s) n w (row wd vals)).block in
+          p ∙ concluding-is co wd g m rank (take (m * wd) e) v out reads ∙ ap (λ (z : Sys). row_reply co g m z out) S.system
+          ∙ ap₂ (λ (i j : ℕ). row_reply co i j (solve co E X) out) S.unknown S.many
+          ∙ sym (verdict-lanes n s w strip vals co wd r hw F.symbols F.ordered pl (omega (arith, S.unknown, S.few)) out)
+          ∙ sym (rw (le-ltb c G (omega (arith, S.unknown, S.few))) refl)
 
 -- ---- the words of a row
 
-module _ (n : ℕ) (s : List ℕ) (r most : ℕ) (strip word : List ℕ) (F : Formed n s r most (length word)) (g : ℕ) (eg : g ≡ counting n s word) where
-  counted : g ≡ unknowns n (rules n s) word
-  counted = all-counted n s r most word F g eg
+module _ (n : ℕ) (s : List ℕ) (r c : ℕ) (strip w out : List ℕ) (F : Formed n s r c (length strip) (length w) (length out)) (g : ℕ) (eg : g ≡ counting n s w) where
+  all-counted : g ≡ unknowns n (rules n s) w
+  all-counted = eg ∙ counting-all n s w refl (shaped_when n (length s) (length w) F.small F.long F.symbols)
 
-  pub counted-over : (out : List ℕ) → most < g → leaving out (TooMany g) ≡ repair_deciding n s r most strip word out
+  pub over : c < g → leaving out (TooMany g) ≡ repair_deciding n s r c strip w out
   unfolding repair_deciding
-  counted-over out h = ap (λ (k : ℕ). leaving out (TooMany k)) counted ∙ sym (sized_over most (unknowns n (rules n s) word) out _ (omega (arith, counted)))
+  over h = ap (λ (k : ℕ). leaving out (TooMany k)) all-counted ∙ sym (rw (lt-ltb c (unknowns n (rules n s) w) (omega (arith, all-counted))) refl)
 
-  module _ (h : g ≤ most) where
-    pub deciding_at : (out : List ℕ) (x : Reply) → x ≡ repair_deciding n s r g strip word out → x ≡ repair_deciding n s r most strip word out
+  module _ (h : g ≤ c) where
+    -- the ceiling can as well be the number of unknowns
+    pub formed-at : Formed n s r g (length strip) (length w) (length out)
+    formed-at =
+        record {
+          small = F.small;
+          long = F.long;
+          ordered = F.ordered;
+          check = F.check;
+          enough = F.enough;
+          records = F.records;
+          symbols = F.symbols;
+          room = F.room;
+          low = omega (arith, F.low);
+        }
+
+    pub decided_at : (x : Reply) → x ≡ repair_deciding n s r g strip w out → x ≡ repair_deciding n s r c strip w out
     unfolding repair_deciding
-    deciding_at out x p =
-        let G = unknowns n (rules n s) word in
-        p ∙ sized_under g G out _ (omega (arith, counted)) ∙ sym (sized_under most G out _ (omega (arith, counted)))
+    decided_at x p = p ∙ rw (le-ltb g (unknowns n (rules n s) w) (omega (arith, all-counted)), le-ltb c (unknowns n (rules n s) w) (omega (arith, all-counted))) refl
 
-    pub row_fits : Rowed 9 g (g / 64 + 1) (g / 64 + 1 + 9) widest
+    pub row_fits : (g ≤ 64 * (g / 64 + 1)) × (g / 64 + 1 + 9 ≤ widest)
     unfolding widest largest_ceiling
-    row_fits = let l = F.low in record { behind = refl; enough = omega arith; narrow = omega arith }
+    row_fits = let l = F.low in (omega arith, omega arith)
 
     few_words_lem : g / 64 + 1 + 9 ≤ largest_ceiling / 64 + 10
     few_words_lem = let l = F.low in omega (arith, h)
 
     -- there is room for the rows of N symbols and of the equations
-    pub within : (length word + r) * (g / 64 + 1 + 9) ≤ most_words
+    pub within : (length w + r) * (g / 64 + 1 + 9) ≤ most_words
     unfolding most_words
     within =
-        let p = pow_mono {i = n} {j = largest_n} F.sheet.small in
-        let q : length word + r ≤ 2 ^ largest_n + longest_check = omega (arith, F.symbols, length_longest F.sheet.check) in
+        let p = pow_mono {i = n} {j = largest_n} F.small in
+        let q : length w + r ≤ 2 ^ largest_n + longest_check = omega (arith, F.symbols, length_longest F.check) in
         mul-le-mul q few_words_lem
 
 -- rows where there is room for r more

@@ -1,13 +1,15 @@
 -- Repairing, part by part.
 --     lane_in             the word of lane t, of symbols above 1 where the record is lost
 --     repair_deciding     what is left once no fault of form is found: too many unknowns, or the reply
---     Stripped           as many bytes as N records have, and room for the output: what the strip's refusals leave
-use Rattle.std.specs.Prelude.{◌≡◌, ℕ, ◌*◌, ◌^◌, ◌≤◌, List, length, get_or, replicate}
+--     Formed             no fault of form: what these refusals leave
+use Rattle.std.specs.Prelude.{◌≡◌, ◌⊎◌, ℕ, ◌*◌, ◌^◌, ◌≤◌, true, List, length, get_or, replicate, ltb}
 use Rattle.bits.specs.Vectors.{pick, tab}
-use Rattle.meaning.specs.Sheet.{rules}
+use Rattle.meaning.specs.Limits.{largest_n, record_bytes, largest_ceiling}
+use Rattle.meaning.specs.Sheet.{rules, frees, early}
 use Rattle.meaning.specs.Codewords.{erased, candidates}
 use Rattle.meaning.specs.Open.{unknowns, equations}
-use Rattle.meaning.specs.Answers.{Reply, sized, verdict}
+use Rattle.meaning.specs.Answers.{Reply, leaving, verdict}
+use Rattle.meaning.specs.declared.Answer.TheVariants.{TooMany}
 use Rattle.strips.specs.Repairing.{lane_bit, strip_reply}
 
 abbrev pub lane_in : List ℕ → List ℕ → ℕ → List ℕ
@@ -19,8 +21,17 @@ lane_verdict n s r strip word t =
     verdict n (unknowns n (rules n s) word) (equations n (rules n s) r word) (candidates n (rules n s) r (lane_in strip word t)) (replicate (3 * 2 ^ n) 0)
 
 unfoldable pub repair_deciding : ℕ → List ℕ → ℕ → ℕ → List ℕ → List ℕ → List ℕ → Reply
-repair_deciding n s r ceiling strip word out = sized ceiling (unknowns n (rules n s) word) out (strip_reply n (lane_verdict n s r strip word) out)
+repair_deciding n s r c strip word out =
+    let g = unknowns n (rules n s) word in
+    pick (ltb c g) (leaving out (TooMany g)) (strip_reply n (lane_verdict n s r strip word) out)
 
-pub record Stripped (n strip out : ℕ) : Type 0 where
+pub record Formed (n : ℕ) (s : List ℕ) (r c strip word out : ℕ) : Type 0 where
+  pub small : n ≤ largest_n
+  pub long : length s ≡ 2 ^ n * record_bytes
+  pub ordered : early 0 (rules n s) ≡ true
+  pub check : (r ≡ 0) ⊎ ((r ≡ 6) ⊎ (r ≡ 11))
+  pub enough : r ≤ frees (rules n s)
   pub records : strip ≡ 2 ^ n * 64
+  pub symbols : word ≡ 2 ^ n
   pub room : 65 * 2 ^ n ≤ out
+  pub low : c ≤ largest_ceiling

@@ -1,5 +1,4 @@
--- Whole strips: N records of 64 bytes end to end, of which some are lost. Lane t is bit t mod 8 of byte t div 8 of each record. A strip's reply is put
--- together
+-- Whole strips: N records of 64 bytes end to end, of which some are lost. Lane t is bit t mod 8 of byte t div 8 of each record. A strip's reply is put together
 -- from what `decode` answers each of its 512 lanes alone.
 --     lane_bit strip j t             bit t of record j
 --     lane_of strip lost t           the word of lane t: 2 where the record is lost, else its bit
@@ -9,7 +8,7 @@
 --     settled_in, open_at             the settled value at place j of lane t; whether record j is not settled
 --     repaired                      the repaired strip, then its marks
 --     strip_reply, repairing         what a call answers and leaves in its buffer
--- `s` is the sheet, `lost` the marks (1 where a record is lost), `out` the buffer as found.
+-- `s` is the sheet, `c` the ceiling, `lost` the marks (1 where a record is lost), `out` the buffer as found.
 use Rattle.std.specs.Prelude.{ℕ, ◌+◌, ◌*◌, ◌/◌, ◌%◌, ◌^◌, Bool, not, length, get_or, replicate, eqb, ltb}
 use mathlib.Core.List.{List, [], ◌∷◌, ◌++◌, flatten}
 use Rattle.bits.specs.Vectors.{bit, pick, tab, first_place}
@@ -36,15 +35,14 @@ lane_of strip lost t = tab (length lost) (λ (j : ℕ). pick (eqb (get_or lost j
 
 -- the sheet's faults; 14: the strip is not 64N bytes, or there are not N marks; 15: the first mark above 1; 16: an output under 65N bytes; 17
 unfoldable pub repair_form : ℕ → List ℕ → ℕ → ℕ → ℕ → List ℕ → ℕ → List Refusal
-repair_form n s r ceiling strip lost room =
-    sheetRefusals n s r ++ ((not (eqb strip (2 ^ n * 64)) ⇒ BadLength) ∷ wordRefusals (2 ^ n) 1 (65 * 2 ^ n) lost
-    room) ++ ((ltb largest_ceiling ceiling ⇒ BadCeiling) ∷ [])
+repair_form n s r c strip lost room =
+    sheetRefusals n s r ++ ((not (eqb strip (2 ^ n * 64)) ⇒ BadLength) ∷ wordRefusals (2 ^ n) 1 (65 * 2 ^ n) lost room) ++ ((ltb largest_ceiling c ⇒ BadCeiling) ∷ [])
 
 -- then 18: g above the ceiling; g is that of every lane
 unfoldable pub repair_refusals : ℕ → List ℕ → ℕ → ℕ → List ℕ → List ℕ → List ℕ → List Refusal
-repair_refusals n s r ceiling strip lost out =
+repair_refusals n s r c strip lost out =
     let g = unknowns n (rules n s) (lane_of strip lost 0) in
-    repair_form n s r ceiling (length strip) lost (length out) ++ ((ltb ceiling g ⇒ TooMany g) ∷ [])
+    repair_form n s r c (length strip) lost (length out) ++ ((ltb c g ⇒ TooMany g) ∷ [])
 
 -- ---- the reply, from those of the lanes
 
@@ -87,8 +85,7 @@ module _ (n : ℕ) (lane : ℕ → Reply) where
 
 -- what `decode` answers lane t alone, given room
 abbrev pub lane_reply : ℕ → List ℕ → ℕ → ℕ → List ℕ → List ℕ → ℕ → Reply
-lane_reply n s r ceiling strip lost t = decoding n s r ceiling (lane_of strip lost t) (replicate (3 * 2 ^ n) 0)
+lane_reply n s r c strip lost t = decoding n s r c (lane_of strip lost t) (replicate (3 * 2 ^ n) 0)
 
 unfoldable pub repairing : ℕ → List ℕ → ℕ → ℕ → List ℕ → List ℕ → List ℕ → Reply
-repairing n s r ceiling strip lost out =
-    first_of (leaving out) (repair_refusals n s r ceiling strip lost out) (strip_reply n (lane_reply n s r ceiling strip lost) out)
+repairing n s r c strip lost out = first_of (leaving out) (repair_refusals n s r c strip lost out) (strip_reply n (lane_reply n s r c strip lost) out)

@@ -1,5 +1,4 @@
--- The words of the room for a strip's rows, in three sizes. A row has a word for each 64 unknowns, one that may be empty, one for the constant of all lanes,
--- and
+-- The words of the room for a strip's rows, in three sizes. A row has a word for each 64 unknowns, one that may be empty, one for the constant of all lanes, and
 -- eight for the lanes.
 --     few_words, some_words     of short strips, and of longer ones with few unknowns
 --     most_words               of the largest N and the most unknowns

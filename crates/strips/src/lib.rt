@@ -1,18 +1,16 @@
 // Whole strips: N records of 64 bytes end to end, some of them lost. All 512 lanes are repaired at once, lane t being bit
 // t mod 8 of byte t div 8 of each record. What depends on the losses alone is done once.
-ghost use Rattle.std.specs.Prelude.{◌≡◌, ◌*◌, ◌^◌, ◌≤◌, length};
+ghost use Rattle.std.specs.Prelude.{◌≡◌, length};
 ghost use Rattle.meaning.specs.Answers.{fault, reply};
-ghost use Rattle.meaning.specs.Forms.{Formed};
 ghost use Rattle.strips.specs.Repairing.{repair_form, repairing};
 ghost use Rattle.strips.specs.Placing.{lost_word};
-ghost use Rattle.strips.specs.Deciding.{repair_deciding, Stripped};
+ghost use Rattle.strips.specs.Deciding.{repair_deciding, Formed};
 
 mod place;
 mod rooms;
 mod solving;
 
 use meaning::{Answer, limits};
-use system::Terms;
 
 // The fault of form that a repair is refused for: the sheet's, the strip's, the marks', the output's or the ceiling's. Done
 // where there is none.
@@ -27,7 +25,7 @@ fn fault(
 ) -> Answer
     ensures { result ≡ fault (repair_form n sheet.now r ceiling strip lost.now room) }
 {
-    let a = refusals::check_sheet(n, sheet, r);
+    let a = sheet::check_sheet(n, sheet, r);
     if !answers::is_done(a) {
         return a;
     }
@@ -35,7 +33,7 @@ fn fault(
     if strip != size * 64 {
         return Answer::BadLength;
     }
-    let b = refusals::check_word(lost, size, 1, room, 65 * size);
+    let b = sheet::check_word(lost, size, 1, room, 65 * size);
     if !answers::is_done(b) {
         return b;
     }
@@ -56,23 +54,14 @@ fn decide(
     word: &[u8],
     out: &mut [u8],
 ) -> Answer
-    requires { Formed n sheet.now r ceiling (length word.now) × Stripped n (length strip.now) (length out.old) }
-    ensures { reply out.new result
-        ≡ repair_deciding n sheet.now r ceiling strip.now word.now out.old }
+    requires { Formed n sheet.now r ceiling (length strip.now) (length word.now) (length out.old) }
+    ensures { reply out.new result ≡ repair_deciding n sheet.now r ceiling strip.now word.now out.old }
 {
     let g = counting::unknowns(n, sheet, word);
     if ceiling < g {
         return Answer::TooMany { g };
     }
-    let c = g / 64 + 1;
-    let t = Terms {
-        n,
-        r,
-        most: g,
-        coeffs: c,
-        words: c + 9,
-    };
-    rooms::answer(t, sheet, strip, word, out)
+    rooms::answer(g / 64 + 1, n, sheet, r, g, strip, word, out)
 }
 
 // `decide` on what is lost, with a slice for it as a word.
@@ -86,10 +75,8 @@ fn decide_lost(
     word: &mut [u8],
     out: &mut [u8],
 ) -> Answer
-    requires formed { Formed n sheet.now r ceiling (length (lost_word lost.now)) × Stripped n (length strip.now) (length out.old) }
-    requires word_len { length word.old ≡ length lost.now }
-    ensures { reply out.new result
-        ≡ repair_deciding n sheet.now r ceiling strip.now (lost_word lost.now) out.old }
+    requires { Formed n sheet.now r ceiling (length strip.now) (length (lost_word lost.now)) (length out.old) × (length word.old ≡ length lost.now) }
+    ensures { reply out.new result ≡ repair_deciding n sheet.now r ceiling strip.now (lost_word lost.now) out.old }
 {
     place::erase(lost, word);
     decide(n, sheet, r, ceiling, strip, word, out)
@@ -101,7 +88,7 @@ fn decide_lost(
 // settled and zeros where they are not, followed by N marks, 1 for a record that is not settled: with Unique none is. Later
 // bytes are as found.
 // Answers LaneInconsistent (2) with the first lane in which no codeword agrees, and g and m.
-// Refuses (as refusals::check_sheet; 14: the strip is not 64N bytes, or there are not N marks; 15: the first mark above 1; 16: the
+// Refuses (as sheet::check_sheet; 14: the strip is not 64N bytes, or there are not N marks; 15: the first mark above 1; 16: the
 // output is shorter than 65N; 17: the ceiling is above 255; 18: g is above the ceiling). LaneInconsistent and refusals leave
 // the output as found.
 pub fn repair(

@@ -3,14 +3,11 @@
 ghost use Rattle.std.specs.Prelude.{◌≡◌, ◌+◌, ◌*◌, ◌≤◌, length};
 ghost use Rattle.meaning.specs.Answers.{reply};
 ghost use Rattle.descent.specs.Descending.{widest};
-ghost use Rattle.meaning.specs.Forms.{Formed};
-ghost use Rattle.decoder.specs.Rooms.{Rowed, Roomy};
-ghost use Rattle.strips.specs.Deciding.{repair_deciding, Stripped};
+ghost use Rattle.strips.specs.Deciding.{repair_deciding, Formed};
 ghost use Rattle.strips.specs.Rooms.{few_words, some_words, most_words};
 
 use super::solving;
 use meaning::{Answer, limits};
-use system::Terms;
 
 // Enough for N = 16 and up to 63 unknowns.
 const FEW: usize = 270;
@@ -24,8 +21,11 @@ const MOST: usize = (limits::POSITIONS + system::LONGEST_CHECK)
 
 // `answer`, in slices with room for the rows.
 fn within(
-    t: Terms,
+    c: usize,
+    n: usize,
     sheet: &[u8],
+    r: usize,
+    g: usize,
     strip: &[u8],
     word: &[u8],
     vals: &mut [u64],
@@ -33,17 +33,19 @@ fn within(
     eqs: &mut [u64],
     out: &mut [u8],
 ) -> Answer
-    requires formed { Formed t.n sheet.now t.r t.most (length word.now) × Stripped t.n (length strip.now) (length out.old) }
-    requires rowed { Rowed 9 t.most t.coeffs t.words widest }
-    requires roomy { Roomy (length word.now) t.r t.words (length vals.old) (length us.old) (length eqs.old) }
-    ensures { reply out.new result
-        ≡ repair_deciding t.n sheet.now t.r t.most strip.now word.now out.old }
+    requires formed { Formed n sheet.now r g (length strip.now) (length word.now) (length out.old) }
+    requires g_bound { (g ≤ 64 * c) × (c + 9 ≤ widest) × (length word.now * (c + 9) ≤ length vals.old) × (length word.now * (c + 9) ≤ length us.old) × ((length word.now + r) * (c + 9) ≤ length eqs.old) }
+    ensures { reply out.new result ≡ repair_deciding n sheet.now r g strip.now word.now out.old }
 {
-    let k = word.len() * t.words;
-    let q = (word.len() + t.r) * t.words;
+    let k = word.len() * (c + 9);
+    let q = (word.len() + r) * (c + 9);
     solving::answer(
-        t,
+        c,
+        c + 9,
+        n,
         sheet,
+        r,
+        g,
         strip,
         word,
         &mut vals[0..k],
@@ -54,57 +56,95 @@ fn within(
 }
 
 // `answer`, where FEW words are enough.
-fn few(t: Terms, sheet: &[u8], strip: &[u8], word: &[u8], out: &mut [u8]) -> Answer
-    requires formed { Formed t.n sheet.now t.r t.most (length word.now) × Stripped t.n (length strip.now) (length out.old) }
-    requires rowed { Rowed 9 t.most t.coeffs t.words widest × ((length word.now + t.r) * t.words ≤ few_words) }
-    ensures { reply out.new result
-        ≡ repair_deciding t.n sheet.now t.r t.most strip.now word.now out.old }
+fn few(
+    c: usize,
+    n: usize,
+    sheet: &[u8],
+    r: usize,
+    g: usize,
+    strip: &[u8],
+    word: &[u8],
+    out: &mut [u8],
+) -> Answer
+    requires formed { Formed n sheet.now r g (length strip.now) (length word.now) (length out.old) }
+    requires g_bound { (g ≤ 64 * c) × (c + 9 ≤ widest) × ((length word.now + r) * (c + 9) ≤ few_words) }
+    ensures { reply out.new result ≡ repair_deciding n sheet.now r g strip.now word.now out.old }
 {
     let mut vals = [0u64; FEW];
     let mut us = [0u64; FEW];
     let mut eqs = [0u64; FEW];
-    within(t, sheet, strip, word, &mut vals, &mut us, &mut eqs, out)
+    within(
+        c, n, sheet, r, g, strip, word, &mut vals, &mut us, &mut eqs, out,
+    )
 }
 
 // `answer`, where SOME words are enough.
-fn some(t: Terms, sheet: &[u8], strip: &[u8], word: &[u8], out: &mut [u8]) -> Answer
-    requires formed { Formed t.n sheet.now t.r t.most (length word.now) × Stripped t.n (length strip.now) (length out.old) }
-    requires rowed { Rowed 9 t.most t.coeffs t.words widest × ((length word.now + t.r) * t.words ≤ some_words) }
-    ensures { reply out.new result
-        ≡ repair_deciding t.n sheet.now t.r t.most strip.now word.now out.old }
+fn some(
+    c: usize,
+    n: usize,
+    sheet: &[u8],
+    r: usize,
+    g: usize,
+    strip: &[u8],
+    word: &[u8],
+    out: &mut [u8],
+) -> Answer
+    requires formed { Formed n sheet.now r g (length strip.now) (length word.now) (length out.old) }
+    requires g_bound { (g ≤ 64 * c) × (c + 9 ≤ widest) × ((length word.now + r) * (c + 9) ≤ some_words) }
+    ensures { reply out.new result ≡ repair_deciding n sheet.now r g strip.now word.now out.old }
 {
     let mut vals = [0u64; SOME];
     let mut us = [0u64; SOME];
     let mut eqs = [0u64; SOME];
-    within(t, sheet, strip, word, &mut vals, &mut us, &mut eqs, out)
+    within(
+        c, n, sheet, r, g, strip, word, &mut vals, &mut us, &mut eqs, out,
+    )
 }
 
 // `answer`, where MOST words are enough.
-fn most(t: Terms, sheet: &[u8], strip: &[u8], word: &[u8], out: &mut [u8]) -> Answer
-    requires formed { Formed t.n sheet.now t.r t.most (length word.now) × Stripped t.n (length strip.now) (length out.old) }
-    requires rowed { Rowed 9 t.most t.coeffs t.words widest × ((length word.now + t.r) * t.words ≤ most_words) }
-    ensures { reply out.new result
-        ≡ repair_deciding t.n sheet.now t.r t.most strip.now word.now out.old }
+fn most(
+    c: usize,
+    n: usize,
+    sheet: &[u8],
+    r: usize,
+    g: usize,
+    strip: &[u8],
+    word: &[u8],
+    out: &mut [u8],
+) -> Answer
+    requires formed { Formed n sheet.now r g (length strip.now) (length word.now) (length out.old) }
+    requires g_bound { (g ≤ 64 * c) × (c + 9 ≤ widest) × ((length word.now + r) * (c + 9) ≤ most_words) }
+    ensures { reply out.new result ≡ repair_deciding n sheet.now r g strip.now word.now out.old }
 {
     let mut vals = [0u64; MOST];
     let mut us = [0u64; MOST];
     let mut eqs = [0u64; MOST];
-    within(t, sheet, strip, word, &mut vals, &mut us, &mut eqs, out)
+    within(
+        c, n, sheet, r, g, strip, word, &mut vals, &mut us, &mut eqs, out,
+    )
 }
 
-// Answers a strip of `most` unknowns.
-pub fn answer(t: Terms, sheet: &[u8], strip: &[u8], word: &[u8], out: &mut [u8]) -> Answer
-    requires formed { Formed t.n sheet.now t.r t.most (length word.now) × Stripped t.n (length strip.now) (length out.old) }
-    requires rowed { Rowed 9 t.most t.coeffs t.words widest × ((length word.now + t.r) * t.words ≤ most_words) }
-    ensures { reply out.new result
-        ≡ repair_deciding t.n sheet.now t.r t.most strip.now word.now out.old }
+// Answers a strip of g unknowns, whose rows have c words of coefficients and nine more.
+pub fn answer(
+    c: usize,
+    n: usize,
+    sheet: &[u8],
+    r: usize,
+    g: usize,
+    strip: &[u8],
+    word: &[u8],
+    out: &mut [u8],
+) -> Answer
+    requires formed { Formed n sheet.now r g (length strip.now) (length word.now) (length out.old) }
+    requires g_bound { (g ≤ 64 * c) × (c + 9 ≤ widest) × ((length word.now + r) * (c + 9) ≤ most_words) }
+    ensures { reply out.new result ≡ repair_deciding n sheet.now r g strip.now word.now out.old }
 {
-    let words = (word.len() + t.r) * t.words;
+    let words = (word.len() + r) * (c + 9);
     if words <= FEW {
-        return few(t, sheet, strip, word, out);
+        return few(c, n, sheet, r, g, strip, word, out);
     }
     if words <= SOME {
-        return some(t, sheet, strip, word, out);
+        return some(c, n, sheet, r, g, strip, word, out);
     }
-    most(t, sheet, strip, word, out)
+    most(c, n, sheet, r, g, strip, word, out)
 }

@@ -1,20 +1,21 @@
-// From the records to the answer, on rows of coefficients, one word for the constant of all lanes, and eight for the lanes.
-ghost use Rattle.std.specs.Prelude.{◌≡◌, length};
+// From the records to the answer, on rows of w words: c of coefficients, one for the constant of all lanes, eight for the lanes.
+ghost use Rattle.std.specs.Prelude.{◌≡◌, ◌+◌, ◌*◌, ◌^◌, ◌≤◌, length};
 ghost use Rattle.meaning.specs.Answers.{reply};
-ghost use Rattle.meaning.specs.Forms.{Formed};
 ghost use Rattle.descent.specs.Descending.{widest};
-ghost use Rattle.decoder.specs.Rooms.{Rowed, Sliced};
-ghost use Rattle.strips.specs.Deciding.{repair_deciding, Stripped};
+ghost use Rattle.strips.specs.Deciding.{repair_deciding, Formed};
 
 use super::place;
-use bits::rows::Width;
 use meaning::Answer;
 use system::{System, Terms};
 
-// Answers a strip on slices of N, N and N + r rows.
+// Answers a strip on slices of N, N and N + r rows of w words, c of them coefficients.
 pub fn answer(
-    t: Terms,
+    c: usize,
+    w: usize,
+    n: usize,
     sheet: &[u8],
+    r: usize,
+    ceiling: usize,
     strip: &[u8],
     word: &[u8],
     vals: &mut [u64],
@@ -22,29 +23,24 @@ pub fn answer(
     eqs: &mut [u64],
     out: &mut [u8],
 ) -> Answer
-    requires formed { Formed t.n sheet.now t.r t.most (length word.now) × Stripped t.n (length strip.now) (length out.old) }
-    requires rowed { Rowed 9 t.most t.coeffs t.words widest }
-    requires sliced { Sliced t.n t.r t.words (length vals.old) (length us.old) (length eqs.old) }
-    ensures { reply out.new result
-        ≡ repair_deciding t.n sheet.now t.r t.most strip.now word.now out.old }
+    requires formed { Formed n sheet.now r ceiling (length strip.now) (length word.now) (length out.old) }
+    requires c_value { (c + 9 ≡ w) × (w ≤ widest) × (ceiling ≤ 64 * c) × (length vals.old ≡ 2 ^ n * w) × (length us.old ≡ 2 ^ n * w) × (length eqs.old ≡ (2 ^ n + r) * w) }
+    ensures { reply out.new result ≡ repair_deciding n sheet.now r ceiling strip.now word.now out.old }
 {
-    let width = Width {
-        coeffs: t.coeffs,
-        words: t.words,
+    place::place(vals, strip, word.len(), c, w);
+    let t = Terms {
+        n,
+        r,
+        most: ceiling,
+        coeffs: c,
+        words: w,
     };
-    place::place(vals, strip, word.len(), t.coeffs, t.words);
     match system::solve(sheet, word, t, vals, us, eqs) {
-        // Cannot happen: where no fault of form is found, all fits together (proofs/Solved: `never-misfit`).
         System::Misfit => Answer::BadShape,
         System::Over { g } => Answer::TooMany { g },
         System::Solved { g, m, rank } => {
-            let used = m * t.words;
-            let lane = lanes::first_unsound(width, &eqs[..used]);
-            if lane < 512 {
-                return Answer::LaneInconsistent { lane, g, m };
-            }
-            lanes::write_repaired(width, vals, out);
-            answers::found(g, m, g - rank)
+            let used = m * w;
+            lanes::conclude(c, w, g, m, rank, &eqs[..used], vals, out)
         }
     }
 }

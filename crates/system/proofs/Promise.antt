@@ -1,9 +1,9 @@
 -- What the promise of `solve` comes to.
---     misfit, unfit, over, check_asks, solved_as   its cases, in the values that the code has by then
+--     misfit, unfit, over, settling, solved_as     its cases, in the values that the code has by then
 --     all_fit                     what fits together
 --     never_misfit, over-tells    then the answer is not Misfit, and Over exactly where there are too many unknowns
 --     Solution, solved-tells      what a caller has after Solved: the numbers are 01's, and the rows are those of the solver
---     rank-few                    the rank is at most g, where the placed rows have no coefficient from g on
+--     rank_few                    the rank is at most g, where the placed rows have no coefficient from g on
 --     solve_determined            any two results that the promise allows are equal
 use mathlib.Core.Path.{◌≡◌, refl, sym, ap, ap₂, ◌∙◌}
 use Prim.Native.Nat.{ℕ, zero, suc, ◌+◌, ◌-◌, ◌*◌, ◌^◌, ◌≤◌, ◌<◌}
@@ -30,19 +30,17 @@ use Rattle.model.specs.Model.{Out, checks}
 use Rattle.model.specs.RowValues.{row_values, rows_out, rows_system}
 use Rattle.model.proofs.Steps.{length-checks}
 use Rattle.model.proofs.RowValues.{rows-wide, system-wide, rows-most, rows_next, rows_sizes, rows-equations}
-use Rattle.model.specs.RowValues.{constant}
-use Rattle.model.proofs.RowsWithin.{lane-within}
+use Rattle.verdict.specs.OffRows.{constant}
+use Rattle.verdict.proofs.Lanes.{lane-within}
 use Rattle.meaning.specs.Answers.{checkLength}
 use Rattle.sheet.proofs.Shapes.{shaped_when}
-use Rattle.checks.specs.Checking.{check_fits}
-use Rattle.checks.proofs.Testing.{fits_when}
-use Rattle.descent.specs.Descending.{widest, roomy, filled, descent_fits, descended, descending, written, found}
+use Rattle.descent.specs.Descending.{widest, roomy, filled, descended, descending, written, found}
 use Rattle.descent.specs.Descending as descent
 use Rattle.descent.specs.declared.Descent.{Descent}
 use Rattle.descent.specs.declared.Descent.TheVariants as down
-use Rattle.descent.proofs.Fitting.{descent_fits-true}
-use Rattle.descent.proofs.Promise.{AfterDone, done-tells}
-use Rattle.system.specs.Solving.{spaced, system_fits, Outcome, leaves, reduced, solving, solved_with_check}
+use Rattle.descent.proofs.Fitting.{fitting-true}
+use Rattle.descent.proofs.Promise.{Told, done-tells}
+use Rattle.system.specs.Solving.{spaced, fitting, Outcome, leaves, reduced, solving, Settling, settled}
 use Rattle.system.specs.declared.System.{System}
 use Rattle.system.specs.declared.System.TheVariants.{Misfit, Over, Solved}
 use Rattle.system.proofs.Testing.{spaced-true}
@@ -70,14 +68,14 @@ module _ (n r most c w : ℕ) (s d vals us eqs : List ℕ) where
 
   -- all but the room for the check's rows fits
   abbrev D : Bool
-  D = descent_fits n (length s) (length d) most c w (length vals) (length us) (length eqs)
+  D = descent.fitting n (length s) (length d) most c w (length vals) (length us) (length eqs)
 
   abbrev after : Outcome
   after = solving n r most c w s d vals us eqs
 
   module _ {t : Bool} (p : t ≡ spaced r w (length vals) (length eqs)) where
     pub misfit : not t ≡ true → leaves Misfit vals us eqs ≡ after
-    unfolding solving system_fits
+    unfolding solving fitting
     misfit h = rw (sym p ∙ not-true t h) refl
 
     module _ (h : not t ≡ false) (a : Descent) (v u e : List ℕ) (q : descended a v u e ≡ descending n s d most c w vals us eqs) where
@@ -86,21 +84,17 @@ module _ (n r most c w : ℕ) (s d vals us eqs : List ℕ) where
 
       -- the definition, where there is room
       at_room : after ≡ pick D (pick (ltb most G) (leaves (Over G) vals us eqs) (reduced n r c w s d vals G)) (leaves Misfit vals us eqs)
-      unfolding solving system_fits
+      unfolding solving fitting
       at_room = rw room refl
 
       abbrev given : Descent → descent.Outcome
       given x = descended x v u e
 
-      -- what a descent leaves, by its two tests
-      abbrev left : Bool → Bool → descent.Outcome
-      left b f = pick b (pick f (descended (down.Over G) vals us eqs) (written (length eqs) G w (found n s d c w vals))) (descended down.Misfit vals us eqs)
-
       pub unfit : a ≡ down.Misfit → leaves Misfit v u e ≡ after
       unfolding descending
       unfit x = go D (ltb most G) (ap given (sym x) ∙ q) ∙ sym at_room
         where
-          go : (b f : Bool) → given down.Misfit ≡ left b f
+          go : (b f : Bool) → given down.Misfit ≡ pick b (pick f (descended (down.Over G) vals us eqs) (written (length eqs) G w (found n s d c w vals))) (descended down.Misfit vals us eqs)
               → leaves Misfit v u e ≡ pick b (pick f (leaves (Over G) vals us eqs) (reduced n r c w s d vals G)) (leaves Misfit vals us eqs)
           go false f z = ap (λ (y : descent.Outcome). leaves Misfit y.vals y.us y.eqs) z
           go true true z = let y = ap (λ (y : descent.Outcome). y.answer) z in let k : ◌≡◌ {A = ℕ} 0 1 = cc in absurd (omega arith)
@@ -110,7 +104,7 @@ module _ (n r most c w : ℕ) (s d vals us eqs : List ℕ) where
       unfolding descending
       over g x = go D (ltb most G) (ap given (sym x) ∙ q) ∙ sym at_room
         where
-          go : (b f : Bool) → given (down.Over g) ≡ left b f
+          go : (b f : Bool) → given (down.Over g) ≡ pick b (pick f (descended (down.Over G) vals us eqs) (written (length eqs) G w (found n s d c w vals))) (descended down.Misfit vals us eqs)
               → leaves (Over g) v u e ≡ pick b (pick f (leaves (Over G) vals us eqs) (reduced n r c w s d vals G)) (leaves Misfit vals us eqs)
           go false f z = let y = ap (λ (y : descent.Outcome). y.answer) z in let k : ◌≡◌ {A = ℕ} 0 1 = cc in absurd (omega arith)
           go true true z =
@@ -120,7 +114,7 @@ module _ (n r most c w : ℕ) (s d vals us eqs : List ℕ) where
           go true false z = let y = ap (λ (y : descent.Outcome). y.answer) z in let k : ◌≡◌ {A = ℕ} 0 1 = cc in absurd (omega arith)
 
       module _ (g m : ℕ) (x : a ≡ down.Done g m) (kv : length v ≡ length vals) (ku : length u ≡ length us) (ke : length e ≡ length eqs) where
-        T : AfterDone n s d most c w vals us eqs g m v u e
+        T : Told n s d most c w vals us eqs g m v u e
         T = done-tells n s d most c w vals us eqs g m v u e (ap given (sym x) ∙ q)
 
         long : length eqs ≡ 2 ^ n * w + r * w
@@ -132,21 +126,25 @@ module _ (n r most c w : ℕ) (s d vals us eqs : List ℕ) where
         words : m * w ≤ 2 ^ n * w
         words = mul-le-mul_right w few
 
-        -- what the last step asks
-        pub check_asks : (check_fits n (length s) r c w (length u) m (length e) ≡ true) × (length v ≡ 2 ^ n * w)
-        check_asks = (
-          fits_when n (length s) r c w (length u) m (length e) T.fit.small T.fit.records (spaced-true r w (length vals) (length eqs) room).0
-              T.fit.narrow T.fit.constant (omega (arith, add-mul m r w, words, long, ke)) (ku ∙ T.fit.rows_u),
-          kv ∙ T.fit.rows_v,
-        )
+        pub settling : Settling c w n s r m v u e
+        settling =
+            record {
+              small = T.fit.small;
+              records = T.fit.records;
+              check = (spaced-true r w (length vals) (length eqs) room).0;
+              constant = T.fit.constant;
+              narrow = T.fit.narrow;
+              rows_v = kv ∙ T.fit.rows_v;
+              rows_u = ku ∙ T.fit.rows_u;
+              rows_e = omega (arith, add-mul m r w, words, long, ke);
+            }
 
         -- zeros behind the equations
         tail : drop ((m + r) * w) e ≡ replicate ((2 ^ n + r - (m + r)) * w) 0
         tail =
             let F : List ℕ = flatten O.after.eqs in
             let R : List ℕ = replicate (length eqs - m * w) 0 in
-            let l : length F ≡ m * w =
-            ap length (ap flatten (sym T.rows_e) ∙ flatten-rows w m e) ∙ length-take-le (m * w) e (omega (arith, words, long, ke)) in
+            let l : length F ≡ m * w = ap length (ap flatten (sym T.rows_e) ∙ flatten-rows w m e) ∙ length-take-le (m * w) e (omega (arith, words, long, ke)) in
             let k : (m + r) * w ≡ m * w + r * w = add-mul m r w in
             let i : 2 ^ n ≡ m + (2 ^ n + r - (m + r)) = omega (arith, few) in
             let j : 2 ^ n * w ≡ m * w + (2 ^ n + r - (m + r)) * w = ap (λ (x : ℕ). x * w) i ∙ add-mul m (2 ^ n + r - (m + r)) w in
@@ -157,10 +155,9 @@ module _ (n r most c w : ℕ) (s d vals us eqs : List ℕ) where
         unfolding rules
         system-is = ap₂ (λ (x y : List Row). x ++ checks (row_values c w) r (rules n s) y) T.rows_e T.rows_u
 
-        reduced-is : solved_with_check c w n s r g m v u e ≡ reduced n r c w s d vals G
+        reduced-is : settled c w n s r g m v u e ≡ reduced n r c w s d vals G
         reduced-is =
-            let z : solve c (rows w m e ++ checks (row_values c w) r (rules n s) (rows w (2 ^ n) u)) (rows w (2 ^ n) v) ≡ solve c E O.block =
-            ap₂ (solve c) system-is T.block in
+            let z : solve c (rows w m e ++ checks (row_values c w) r (rules n s) (rows w (2 ^ n) u)) (rows w (2 ^ n) v) ≡ solve c E O.block = ap₂ (solve c) system-is T.block in
             let y = tail ∙ ap {B = List ℕ} (λ k. replicate ((2 ^ n + r - (k + r)) * w) 0) T.many in
             λ i. leaves (Solved (T.unknown i) (T.many i + r) (z i).rank) (flatten (z i).rest) (T.all_u i) (flatten (z i).eqs ++ y i)
 
@@ -168,11 +165,11 @@ module _ (n r most c w : ℕ) (s d vals us eqs : List ℕ) where
         unfolding descending
         fits = go D refl (ap given (sym x) ∙ q)
           where
-            go : (b : Bool) → D ≡ b → given (down.Done g m) ≡ left b (ltb most G) → D ≡ true
+            go : (b : Bool) → D ≡ b → given (down.Done g m) ≡ pick b (pick (ltb most G) (descended (down.Over G) vals us eqs) (written (length eqs) G w (found n s d c w vals))) (descended down.Misfit vals us eqs) → D ≡ true
             go true f z = f
             go false f z = let y = ap (λ (y : descent.Outcome). y.answer) z in let k : ◌≡◌ {A = ℕ} 0 1 = cc in absurd (omega arith)
 
-        pub solved_as : (y : Outcome) → y ≡ solved_with_check c w n s r g m v u e → y ≡ after
+        pub solved_as : (y : Outcome) → y ≡ settled c w n s r g m v u e → y ≡ after
         solved_as y z =
             z ∙ reduced-is
             ∙ sym (at_room ∙ rw (fits, le-ltb most G (omega (arith, T.unknown, T.few))) refl)
@@ -181,8 +178,8 @@ module _ (n r most c w : ℕ) (s d vals us eqs : List ℕ) where
 
   pub all_fit : n ≤ largest_n → length s ≡ 2 ^ n * record_bytes → length d ≡ 2 ^ n → checkLength r ≡ true → c < w → w ≤ widest → most ≤ 64 * c
       → length vals ≡ 2 ^ n * w → length us ≡ 2 ^ n * w → length eqs ≡ (2 ^ n + r) * w
-      → system_fits n (length s) (length d) r most c w (length vals) (length us) (length eqs) ≡ true
-  unfolding system_fits spaced descent_fits roomy filled
+      → fitting n (length s) (length d) r most c w (length vals) (length us) (length eqs) ≡ true
+  unfolding fitting spaced descent.fitting roomy filled
   all_fit small long symbols check hw nw lo lv lu le =
       let e = add-mul (2 ^ n) r w in
       and_i _ _ (and_i _ _ check (and_i _ _ (le-leb w widest nw) (eq-eqb (length eqs) (length vals + r * w) (omega arith))))
@@ -190,8 +187,7 @@ module _ (n r most c w : ℕ) (s d vals us eqs : List ℕ) where
       (and_i _ _ (and_i _ _ (le-leb w widest nw) (and_i _ _ (lt-ltb c w hw) (le-leb most (64 * c) lo)))
       (and_i _ _ (eq-eqb (length vals) (2 ^ n * w) lv) (and_i _ _ (eq-eqb (length us) (2 ^ n * w) lu) (le-leb (2 ^ n * w) (length eqs) (omega arith))))))
 
-  module _ (fit : system_fits n (length s) (length d) r most c w (length vals) (length us) (length eqs) ≡ true)
-      (a : System) (v u e : List ℕ) (q : leaves a v u e ≡ after) where
+  module _ (fit : fitting n (length s) (length d) r most c w (length vals) (length us) (length eqs) ≡ true) (a : System) (v u e : List ℕ) (q : leaves a v u e ≡ after) where
     -- the definition, where all fits
     at_fit : leaves a v u e ≡ pick (ltb most G) (leaves (Over G) vals us eqs) (reduced n r c w s d vals G)
     unfolding solving
@@ -207,8 +203,7 @@ module _ (n r most c w : ℕ) (s d vals us eqs : List ℕ) where
     pub over-tells : (g : ℕ) → a ≡ Over g → (g ≡ G) × (most < G) × (leaves a v u e ≡ leaves a vals us eqs)
     over-tells g x = go (ltb most G) refl (ap (λ (y : System). leaves y v u e) (sym x) ∙ at_fit)
       where
-        go : (b : Bool) → ltb most G ≡ b → leaves (Over g) v u e ≡ pick b (leaves (Over G) vals us eqs) (reduced n r c w s d vals G)
-            → (g ≡ G) × (most < G) × (leaves a v u e ≡ leaves a vals us eqs)
+        go : (b : Bool) → ltb most G ≡ b → leaves (Over g) v u e ≡ pick b (leaves (Over G) vals us eqs) (reduced n r c w s d vals G) → (g ≡ G) × (most < G) × (leaves a v u e ≡ leaves a vals us eqs)
         go true f z =
             let y = ap (λ (y : Outcome). y.answer) z in
             let k : g ≡ G = cc in
@@ -231,13 +226,12 @@ module _ (n r most c w : ℕ) (s d vals us eqs : List ℕ) where
     Z = solve c E O.block
 
     -- the lists that the definition gives for Solved
-    reduced_means : D ≡ true → G ≤ most → leaves (Solved g m rank) v u e ≡ reduced n r c w s d vals G → Solution g m rank v u e
+    tells : D ≡ true → G ≤ most → leaves (Solved g m rank) v u e ≡ reduced n r c w s d vals G → Solution g m rank v u e
     unfolding rules
-    reduced_means f h q =
-        let (R, lo) = descent_fits-true n (length s) (length d) most c w (length vals) (length us) (length eqs) f in
+    tells f h q =
+        let (R, lo) = fitting-true n (length s) (length d) most c w (length vals) (length us) (length eqs) f in
         let some : 0 < w = omega (arith, R.constant) in
-        let full : (j : ℕ) → j < length d → length (row w vals j) ≡ w =
-        λ j p. let k = row_fit j (length d) w p in length_part vals (j * w) w (omega (arith, R.rows_v, ap (λ (i : ℕ). i * w) R.symbols)) in
+        let full : (j : ℕ) → j < length d → length (row w vals j) ≡ w = λ j p. let k = row_fit j (length d) w p in length_part vals (j * w) w (omega (arith, R.rows_v, ap (λ (i : ℕ). i * w) R.symbols)) in
         let a = ap (λ (y : Outcome). y.answer) q in
         let eg : g ≡ G = cc in
         let em : m ≡ length O.after.eqs + r = cc in
@@ -246,8 +240,7 @@ module _ (n r most c w : ℕ) (s d vals us eqs : List ℕ) where
         let se = after-length c E O.block in
         let sr = rest-length c E O.block in
         let le : length Z.eqs ≡ m =
-        se ∙ length-append O.after.eqs _
-        ∙ ap (λ (k : ℕ). length O.after.eqs + k) (length-checks (row_values c w) (rule_at s) r (tab (2 ^ n) (rule_at s)) O.after.us) ∙ sym em in
+        se ∙ length-append O.after.eqs _ ∙ ap (λ (k : ℕ). length O.after.eqs + k) (length-checks (row_values c w) (rule_at s) r (tab (2 ^ n) (rule_at s)) O.after.us) ∙ sym em in
         let lr : length Z.rest ≡ 2 ^ n = sr ∙ (rows_sizes c w (rule_at s) n d (row w vals) R.symbols).0 in
         let ev : v ≡ flatten Z.rest = ap (λ (y : Outcome). y.vals) q in
         let lf : length (flatten Z.eqs) ≡ m * w = length-flatten w Z.eqs we ∙ ap (λ (k : ℕ). k * w) le in
@@ -269,20 +262,19 @@ module _ (n r most c w : ℕ) (s d vals us eqs : List ℕ) where
         }
 
     pub solved-tells : leaves (Solved g m rank) v u e ≡ after → Solution g m rank v u e
-    unfolding solving system_fits
+    unfolding solving fitting
     solved-tells q = go (spaced r w (length vals) (length eqs)) D (ltb most G) refl refl q
       where
         go : (a f b : Bool) → D ≡ f → ltb most G ≡ b
-            → leaves (Solved g m rank) v u e ≡ pick (a && f) (pick b (leaves (Over G) vals us eqs) (reduced n r c w s d vals G)) (leaves Misfit vals us eqs)
-            → Solution g m rank v u e
+            → leaves (Solved g m rank) v u e ≡ pick (a && f) (pick b (leaves (Over G) vals us eqs) (reduced n r c w s d vals G)) (leaves Misfit vals us eqs) → Solution g m rank v u e
         go false f b x y z = let k = ap (λ (y : Outcome). y.answer) z in let i : ◌≡◌ {A = ℕ} 0 1 = cc in absurd (omega arith)
         go true false b x y z = let k = ap (λ (y : Outcome). y.answer) z in let i : ◌≡◌ {A = ℕ} 0 1 = cc in absurd (omega arith)
         go true true true x y z = let k = ap (λ (y : Outcome). y.answer) z in let i : ◌≡◌ {A = ℕ} 0 1 = cc in absurd (omega arith)
-        go true true false x y z = reduced_means x (ltb-false most G y) z
+        go true true false x y z = tells x (ltb-false most G y) z
 
-    pub rank-few : Solution g m rank v u e → ((j : ℕ) → j < length d → lead c (row w vals j) ≡ 0) → rank ≤ g
+    pub rank_few : Solution g m rank v u e → ((j : ℕ) → j < length d → lead c (row w vals j) ≡ 0) → rank ≤ g
     unfolding rules
-    rank-few S bare =
+    rank_few S bare =
         let hg : g ≤ 64 * c = omega (arith, S.few, S.low) in
         let next : O.after.next ≤ g = omega (arith, rows_next c w (rule_at s) n d (row w vals) S.symbols, S.unknown) in
         let k = rank_le c E O.block (constant c) (has-⊻ (64 * c)) g hg ((lane-within c w g S.wide hg (rule_at s) n d (row w vals) next bare).1 r) in
@@ -290,8 +282,7 @@ module _ (n r most c w : ℕ) (s d vals us eqs : List ℕ) where
 
 -- ---- one result
 
-pub solve_determined : (a b : System) (v u e v' u' e' : List ℕ) (meant : Outcome) → leaves a v u e ≡ meant → leaves b v' u' e' ≡ meant
-    → (a ≡ b) × (v ≡ v') × (u ≡ u') × (e ≡ e')
+pub solve_determined : (a b : System) (v u e v' u' e' : List ℕ) (meant : Outcome) → leaves a v u e ≡ meant → leaves b v' u' e' ≡ meant → (a ≡ b) × (v ≡ v') × (u ≡ u') × (e ≡ e')
 solve_determined a b v u e v' u' e' meant p q =
     let s : leaves a v u e ≡ leaves b v' u' e' = p ∙ sym q in
     (ap (λ (o : Outcome). o.answer) s, ap (λ (o : Outcome). o.vals) s, ap (λ (o : Outcome). o.us) s, ap (λ (o : Outcome). o.eqs) s)

@@ -1,15 +1,16 @@
--- What `solve` promises. A sheet of N = 2 ^ n records, a word of N symbols, the rows of its known symbols, and room for the rows of u and
--- of the equations; rows of w words, c of them coefficients (`model`'s RowValues).
---     spaced, system_fits  whether all that is handed over fits together
+-- What `solve` promises. A sheet of N = 2 ^ n records, a word of N symbols, the rows of its known symbols, and room for the rows of u and of the equations;
+-- rows of w words, c of them coefficients (`model`'s RowValues).
+--     spaced, fitting     whether all that is handed over fits together
 --     Outcome, leaves     an answer, and what the three lists hold
 --     reduced             the answer and the lists where it does, of g unknowns
 --     solving             the answer and the lists after the call
 --     longest_check        the most rows that it adds to N for the equations
---     solved_with_check     the last step: the check's equations behind those of a descent, and all solved
-use Rattle.std.specs.Prelude.{ℕ, ◌+◌, ◌-◌, ◌*◌, ◌^◌, Bool, ◌&&◌, length, drop, replicate, eqb, leb, ltb}
+--     Settling, settled   what the last step asks and does: the check's equations behind those of a descent, and all solved
+use Rattle.std.specs.Prelude.{◌≡◌, ℕ, ◌+◌, ◌-◌, ◌*◌, ◌^◌, ◌≤◌, ◌<◌, Bool, true, ◌&&◌, length, drop, replicate, eqb, leb, ltb}
 use mathlib.Core.List.{List, ◌++◌, flatten}
 use Rattle.bits.specs.Vectors.{pick}
 use Rattle.bits.specs.Rows.{Row, row, rows}
+use Rattle.meaning.specs.Limits.{largest_n, record_bytes}
 use Rattle.meaning.specs.Sheet.{rule_at, rules}
 use Rattle.meaning.specs.Open.{unknowns}
 use Rattle.model.specs.Model.{Out}
@@ -17,7 +18,8 @@ use Rattle.model.specs.RowValues.{rows_out, rows_system}
 use Rattle.gf2.specs.Solve.{Sys, solve}
 use Rattle.meaning.specs.Answers.{checkLength}
 use Rattle.checks.specs.Checking.{check_of}
-use Rattle.descent.specs.Descending.{widest, descent_fits}
+use Rattle.descent.specs.Descending.{widest}
+use Rattle.descent.specs.Descending as descent
 use Rattle.system.specs.declared.System.{System}
 use Rattle.system.specs.declared.System.TheVariants.{Misfit, Over, Solved}
 
@@ -31,8 +33,8 @@ unfoldable pub spaced : ℕ → ℕ → ℕ → ℕ → Bool
 spaced r w vals eqs = checkLength r && (leb w widest && eqb eqs (vals + r * w))
 
 -- and the rest is as a descent asks
-unfoldable pub system_fits : ℕ → ℕ → ℕ → ℕ → ℕ → ℕ → ℕ → ℕ → ℕ → ℕ → Bool
-system_fits n sheet word r most c w vals us eqs = spaced r w vals eqs && descent_fits n sheet word most c w vals us eqs
+unfoldable pub fitting : ℕ → ℕ → ℕ → ℕ → ℕ → ℕ → ℕ → ℕ → ℕ → ℕ → Bool
+fitting n sheet word r most c w vals us eqs = spaced r w vals eqs && descent.fitting n sheet word most c w vals us eqs
 
 -- ---- the promise
 
@@ -57,13 +59,23 @@ reduced n r c w sheet word vals g =
 unfoldable pub solving : ℕ → ℕ → ℕ → ℕ → ℕ → List ℕ → List ℕ → List ℕ → List ℕ → List ℕ → Outcome
 solving n r most c w sheet word vals us eqs =
     let g = unknowns n (rules n sheet) word in
-    pick (system_fits n (length sheet) (length word) r most c w (length vals) (length us) (length eqs))
+    pick (fitting n (length sheet) (length word) r most c w (length vals) (length us) (length eqs))
     (pick (ltb most g) (leaves (Over g) vals us eqs) (reduced n r c w sheet word vals g))
     (leaves Misfit vals us eqs)
 
 -- ---- the last step
 
-abbrev pub solved_with_check : ℕ → ℕ → ℕ → List ℕ → ℕ → ℕ → ℕ → List ℕ → List ℕ → List ℕ → Outcome
-solved_with_check c w n sheet r g m vals us eqs =
+pub record Settling (c w n : ℕ) (sheet : List ℕ) (r m : ℕ) (vals us eqs : List ℕ) : Type 0 where
+  pub small : n ≤ largest_n
+  pub records : length sheet ≡ 2 ^ n * record_bytes
+  pub check : checkLength r ≡ true
+  pub constant : c < w
+  pub narrow : w ≤ widest
+  pub rows_v : length vals ≡ 2 ^ n * w
+  pub rows_u : length us ≡ 2 ^ n * w
+  pub rows_e : (m + r) * w ≤ length eqs
+
+abbrev pub settled : ℕ → ℕ → ℕ → List ℕ → ℕ → ℕ → ℕ → List ℕ → List ℕ → List ℕ → Outcome
+settled c w n sheet r g m vals us eqs =
     let s : Sys = solve c (rows w m eqs ++ check_of n sheet r c w us) (rows w (2 ^ n) vals) in
     leaves (Solved g (m + r) s.rank) (flatten s.rest) us (flatten s.eqs ++ drop ((m + r) * w) eqs)

@@ -1,13 +1,11 @@
 // Descent, check and solver behind one promise, on rows of any width: what the losses and the known symbols' rows make of a
 // word. Every engine stands on it.
-ghost use Rattle.std.specs.Prelude.{◌≡◌, true, ◌*◌, ◌^◌, length};
-ghost use Rattle.checks.specs.Checking.{check_fits};
-ghost use Rattle.system.specs.Solving.{leaves, solving, solved_with_check};
+ghost use Rattle.std.specs.Prelude.{◌≡◌};
+ghost use Rattle.system.specs.Solving.{leaves, solving, Settling, settled};
 
 mod limits;
 
-use bits::rows::Width;
-use descent::{Descent, Task};
+use descent::Descent;
 use gf2::Outcome;
 
 // The longest check.
@@ -35,29 +33,23 @@ pub enum System {
     Solved { g: usize, m: usize, rank: usize },
 }
 
-// Puts the check's equations behind the m of a descent, which found g unknowns, and solves them all.
-fn solve_with_check(
+// Puts the check's equations behind the m of a descent and solves them all.
+fn settle(
+    c: usize,
+    w: usize,
+    n: usize,
     sheet: &[u8],
-    t: Terms,
+    r: usize,
     g: usize,
     m: usize,
     vals: &mut [u64],
     us: &[u64],
     eqs: &mut [u64],
 ) -> System
-    requires eqs_value { check_fits t.n (length sheet.now) t.r t.coeffs t.words (length us.now) m (length eqs.old) ≡ true }
-    requires vals_len { length vals.old ≡ 2 ^ t.n * t.words }
-    ensures { leaves result vals.new us.now eqs.new
-        ≡ solved_with_check t.coeffs t.words t.n sheet.now t.r g m vals.old us.now eqs.old }
+    requires { Settling c w n sheet.now r m vals.old us.now eqs.old }
+    ensures { leaves result vals.new us.now eqs.new ≡ settled c w n sheet.now r g m vals.old us.now eqs.old }
 {
-    let r = t.r;
-    let c = t.coeffs;
-    let w = t.words;
-    let width = Width {
-        coeffs: c,
-        words: w,
-    };
-    checks::check_rows(t.n, sheet, r, width, us, m, eqs);
+    checks::check_rows(n, sheet, r, c, w, us, m, eqs);
     let q = m + r;
     let k = q * w;
     match gf2::eliminate(&mut eqs[..k], vals, c, w) {
@@ -84,22 +76,18 @@ pub fn solve(
     us: &mut [u64],
     eqs: &mut [u64],
 ) -> System
-    ensures { leaves result vals.new us.new eqs.new
-        ≡ solving t.n t.r t.most t.coeffs t.words sheet.now word.now
-        vals.old us.old eqs.old }
+    ensures { leaves result vals.new us.new eqs.new ≡ solving t.n t.r t.most t.coeffs t.words sheet.now word.now vals.old us.old eqs.old }
 {
-    if !limits::spaced(t.r, t.words, vals.len(), eqs.len()) {
+    let n = t.n;
+    let r = t.r;
+    let c = t.coeffs;
+    let w = t.words;
+    if !limits::spaced(r, w, vals.len(), eqs.len()) {
         return System::Misfit;
     }
-    let task = Task {
-        n: t.n,
-        most: t.most,
-        coeffs: t.coeffs,
-        words: t.words,
-    };
-    match descent::descend(sheet, word, task, vals, us, eqs) {
+    match descent::descend(n, sheet, word, t.most, c, w, vals, us, eqs) {
         Descent::Misfit => System::Misfit,
         Descent::Over { g } => System::Over { g },
-        Descent::Done { g, m } => solve_with_check(sheet, t, g, m, vals, us, eqs),
+        Descent::Done { g, m } => settle(c, w, n, sheet, r, g, m, vals, us, eqs),
     }
 }

@@ -62,8 +62,7 @@ module _ (out records : List ℕ) (m : ℕ) (h : m ≤ length out) (l : length r
       let n : length (take m out) ≡ m = length-take-le m out h in
       let z : length (take (m - 0) o) ≡ m = ap length (front m o ∙ ap (take m) e ∙ take_at (take m out) rep m n) ∙ n in
       let j : m - 0 ≡ m = omega arith in
-      ap₂ {C = List ℕ} (λ a b. a ++ b) (copy_over rec (take (m - 0) o) y (omega arith) q)
-      (ap (λ (i : ℕ). drop i o) j ∙ ap (drop m) e ∙ drop_at (take m out) rep m n)
+      ap₂ {C = List ℕ} (λ a b. a ++ b) (copy_over rec (take (m - 0) o) y (omega arith) q) (ap (λ (i : ℕ). drop i o) j ∙ ap (drop m) e ∙ drop_at (take m out) rep m n)
 
 -- so its front and its rest are what the call leaves
 pub beside_is : (s c input out records : List ℕ) (k m : ℕ) (h : m ≤ length out) (l : length records ≡ m) (first rep rec y : List ℕ) (a : Answer)
@@ -73,16 +72,7 @@ pub beside_is : (s c input out records : List ℕ) (k m : ℕ) (h : m ≤ length
     → (let o = put_mid m (length out - m) out rep in y ≡ take (length rec) rec ++ drop (length rec) (take (m - 0) o)
     → leaving_both (drop m (y ++ drop (m - 0) o)) (take m (y ++ drop (m - 0) o)) a ≡ answering_strips s (take k c) (drop k c) input (drop m out) (take m out))
 beside_is s c input out records k m h l first rep rec y a q e n p =
-    rw (
-      copied_back out records m h l rep rec y n p,
-      drop_at rec rep m n,
-      take_at rec rep m n,
-      e,
-      copied-out out records m h l first q,
-      front k c,
-      from c k,
-      from out m,
-    )
+    rw (copied_back out records m h l rep rec y n p, drop_at rec rep m n, take_at rec rep m n, e, copied-out out records m h l first q, front k c, from c k, from out m)
 
 -- k and m are as many as are asked for, or all
 pub least_is : (s c input out x : List ℕ) (n r k m : ℕ) (a : Answer) → k ≡ min n (length c) → m ≡ min r (length out) → length x ≡ length out

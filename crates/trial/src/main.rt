@@ -50,7 +50,7 @@ fn call(
     requires { length out.old ≤ most_out }
 {
     match op {
-        0 => Reply::Answered(refusals::check_sheet(n, a, r)),
+        0 => Reply::Answered(sheet::check_sheet(n, a, r)),
         1 => Reply::Answered(codec::encode(n, a, r, b, out)),
         2 => Reply::Answered(decoder::decode(n, a, r, ceiling, b, out)),
         3 => Reply::Answered(codec::read_back(n, a, r, b, out)),
@@ -58,7 +58,6 @@ fn call(
         5 => Reply::Answered(sheet_convert::convert(n, a, out)),
         7 => Reply::Answered(strips::repair(n, a, r, ceiling, b, c, out)),
         8 => Reply::Viewed(ops::put_view(a, n, r, out)),
-        9 => Reply::Answered(decoder::list(n, a, r, ceiling, b, out)),
         15 => Reply::Answered(ops::repair_strips(n, r, a, c, b, out)),
         _ => Reply::Unknown,
     }

@@ -30,8 +30,7 @@ fn copy_fitting(from: &[u8], to: &mut [u8])
 // `view::cartridge` of `view::view` is `view::record` by contract, and the borrow checker covers no caller of these two.
 pub fn put_view(strip: &[u8], n: usize, at: usize, out: &mut [u8]) -> usize
     ensures value { result ≡ length (record_of strip.now n at) }
-    ensures out_after { out.new ≡ take (length out.old) (record_of strip.now n at)
-        ++ drop (length (record_of strip.now n at)) out.old }
+    ensures out_after { out.new ≡ take (length out.old) (record_of strip.now n at) ++ drop (length (record_of strip.now n at)) out.old }
 {
     let record = view::record(strip, n, at);
     copy_fitting(record, out);
@@ -50,9 +49,7 @@ fn repair_beside(
     records: &mut [u8],
 ) -> Answer
     requires { (n ≤ length c.now) × (r ≤ length out.old) × (length records.old ≡ r) }
-    ensures { leaving_both (drop r out.new) (take r out.new) result
-        ≡ answering_strips sheet.now (take n c.now) (drop n c.now)
-        input.now (drop r out.old) (take r out.old) }
+    ensures { leaving_both (drop r out.new) (take r out.new) result ≡ answering_strips sheet.now (take n c.now) (drop n c.now) input.now (drop r out.old) (take r out.old) }
 {
     bytes::copy(&out[0..r], records);
     let a = strip_stream::answer(sheet, &c[0..n], &c[n..], input, &mut out[r..], records);
@@ -71,9 +68,7 @@ pub fn repair_strips(
     out: &mut [u8],
 ) -> Answer
     requires { length out.old ≤ most_out }
-    ensures { leaving_both (drop r out.new) (take r out.new) result
-        ≡ answering_strips sheet.now (take n c.now) (drop n c.now)
-        input.now (drop r out.old) (take r out.old) }
+    ensures { leaving_both (drop r out.new) (take r out.new) result ≡ answering_strips sheet.now (take n c.now) (drop n c.now) input.now (drop r out.old) (take r out.old) }
 {
     let k = least(n, c.len());
     let m = least(r, out.len());

@@ -18,8 +18,7 @@ use Rattle.bits.proofs.Words.{bit_cases, mod_two, xor_bit}
 use Rattle.bits.proofs.WordBits.{odd_xor, full-bits}
 use Rattle.gf2.specs.System.{led, dot, unpack, parity}
 use Rattle.gf2.proofs.Packed.{parity-is}
-use Rattle.model.specs.RowValues.{constant}
-use Rattle.verdict.specs.OffRows.{row_settled, row_first, row_last}
+use Rattle.verdict.specs.OffRows.{constant, row_settled, row_first, row_last}
 use Rattle.verdict.specs.Words.{agreeable}
 
 -- ---- their sum
@@ -50,13 +49,13 @@ module _ (c : ℕ) (x : Row) where
   unfolding parity
   sum-next s k h e = rw (add-one k) (odd_xor s (get_or x k 0) full ∙ ap₂ ◌⊕◌ e (ap (odd_of (get_or x k 0)) (sym (get_or-replicate c k full 0 h))))
 
-  bit-one : (p : ℕ) → p < 2 → p ≡ bit (eqb p 1)
-  bit-one p h = bit_cases (λ q. q ≡ bit (eqb q 1)) refl refl p h
+  bit_one : (p : ℕ) → p < 2 → p ≡ bit (eqb p 1)
+  bit_one p h = bit_cases (λ q. q ≡ bit (eqb q 1)) refl refl p h
 
   pub sum-all : (s k p : ℕ) → k ≤ c → c ≤ k → odd_of s full ≡ sum k → p ≡ parity_of s full → p ≡ bit (dot 0 x (replicate (64 * c) true))
   sum-all s k p l h e q =
       let m : k ≡ c = omega arith in
-      q ∙ bit-one (parity_of s full) (mod_two (ones (bit_and s full))) ∙ ap bit (e ∙ ap sum m ∙ sum_is)
+      q ∙ bit_one (parity_of s full) (mod_two (ones (bit_and s full))) ∙ ap bit (e ∙ ap sum m ∙ sum_is)
 
   -- ---- what it says
 
@@ -66,7 +65,7 @@ module _ (c : ℕ) (x : Row) where
       let q : 64 * c / 64 ≡ c = omega arith in
       let z : 64 * c % 64 ≡ 0 = omega arith in
       let e : get_or x c 0 / 1 ≡ get_or x c 0 = omega arith in
-      rw (q, z, e) (bit-one (get_or x c 0 % 2) (mod_two (get_or x c 0)))
+      rw (q, z, e) (bit_one (get_or x c 0 % 2) (mod_two (get_or x c 0)))
 
   pub last-is : (p b : ℕ) → p ≡ bit (dot 0 x (replicate (64 * c) true)) → b ≡ row_first c x → bit_xor p b ≡ row_last c x
   last-is p b ep eb = ap₂ bit_xor ep eb ∙ xor_bit (dot 0 x (replicate (64 * c) true)) (constant c x)

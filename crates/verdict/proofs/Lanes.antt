@@ -3,6 +3,7 @@
 --     Constant                what κ has to be
 --     lane_sym, lane_word       a symbol, and the word, as κ reads it
 --     same-erased, same-unknowns, same-equations     all such words have the same symbols erased
+--     lane-within             no row that the model finds has a coefficient beyond the unknowns
 --     lane-candidates         the word's candidates are the values, by κ, of the codeword's rows at the solutions of the equations
 --     lane-verdict            the verdict
 --     constant-constant       the decoder's constant is one
@@ -19,9 +20,9 @@ use Rattle.bits.proofs.Xor.{⊕-false}
 use Rattle.bits.proofs.Tests.{length-tab}
 use Rattle.bits.proofs.Rising.{bits-length}
 use Rattle.gf2.specs.Solve.{lead, solve}
-use Rattle.gf2.specs.System.{Hom, dot, value, vanishes}
+use Rattle.gf2.specs.System.{Each, Hom, Within, dot, value, vanishes}
 use Rattle.bits.proofs.RowXor.{has-⊻}
-use Rattle.gf2.proofs.Leads.{lead_above}
+use Rattle.gf2.proofs.Leads.{lead_above, lead-⊻_le}
 use Rattle.gf2.proofs.Sums.{dot-none, value_hom}
 use Rattle.meaning.specs.Sheet.{Rule, early}
 use Rattle.meaning.specs.Codewords.{erased, candidates}
@@ -33,11 +34,10 @@ use Rattle.model.specs.Related.{Along, nil, cons, Sym, gone, known, Bound, Bound
 use Rattle.model.proofs.Relate.{Graph, along_append, along_map, decode_bound, checks_bound}
 use Rattle.model.proofs.Exact.{exact}
 use Rattle.model.proofs.RowValues.{rows_sizes}
-use Rattle.model.specs.RowValues.{unit_row, unknown_row, constant, row_values, held, placed, rows_out, rows_system}
-use Rattle.model.proofs.OneBit.{has-nought, has_same, has_other, unit_row_lem, dot-nought, dot-unknown, lead-within}
-use Rattle.model.proofs.RowsWithin.{lane-within}
-use Rattle.verdict.specs.OffRows.{strips_by, verdict_by}
+use Rattle.model.specs.RowValues.{unit_row, unknown_row, row_values, held, placed, rows_out, rows_system}
+use Rattle.verdict.specs.OffRows.{strips_by, verdict_by, constant}
 use Rattle.verdict.proofs.Listing.{map-filter}
+use Rattle.verdict.proofs.OneBit.{has-nought, has_same, has_other, unit_row_lem, dot-nought, dot-unknown, lead-within}
 use Rattle.verdict.proofs.Places.{verdict-rows}
 
 -- a sum of bits of the row that has the constant 1, and of which 0 and the first g unknowns have none
@@ -86,6 +86,11 @@ module _ (κ : Row → Bool) where
 
 -- ---- the model on the rows
 
+each_along : {A : Type 0} {P : Row → Type 0} {l : List Row} {m : List A} → Along (λ (x : Row) (a : A). P x) l m → Each P l
+each_along nil i h = absurd (omega arith)
+each_along (cons p t) zero h = p
+each_along (cons p t) (suc i) h = each_along t i (omega arith)
+
 all_map : {A B : Type 0} (f : A → B) (p : B → Bool) (l : List A) → all p (map f l) ≡ all (λ (a : A). p (f a)) l
 all_map f p [] = refl
 all_map f p (a ∷ l) = ap (λ (b : Bool). p (f a) && b) (all_map f p l)
@@ -97,10 +102,45 @@ module _ (c w g : ℕ) (hc : c < w) (hg : g ≤ 64 * c) where
   coefficients : (k : ℕ) → k < g → k / 64 < w
   coefficients k l = omega arith
 
-  module _ (rule : ℕ → Rule) (n : ℕ) (d : List ℕ) (f : ℕ → Row) (within : (rows_out c w rule n d f).after.next ≤ g)
-      (bare : (j : ℕ) → j < length d → lead c (f j) ≡ 0) where
+  -- no coefficient at or above g
+  abbrev Few : Row → Row → Type 0
+  Few x y = lead c x ≤ g
+
+  lead_bound : Bound Few g (row_values c w) (row_values c w)
+  lead_bound =
+      record {
+        plus = λ {a} {a'} p q. lead-⊻_le c g a a' p q;
+        nought = lead-within c g _ (λ t l m. has-nought w t);
+        unit = lead-within c g _ (λ t l m. ap (has t) (unit_row_lem c w) ∙ has_other w (64 * c) unit_word_lem t (λ (q : t ≡ 64 * c). omega arith));
+        unknown = λ k h. lead-within c g _ (λ t l m. has_other w k (coefficients k h) t (λ (q : t ≡ k). omega arith));
+      }
+
+  module _ (rule : ℕ → Rule) (n : ℕ) (d : List ℕ) (f : ℕ → Row) (within : (rows_out c w rule n d f).after.next ≤ g) (bare : (j : ℕ) → j < length d → lead c (f j) ≡ 0) where
     abbrev O : Out Row
     O = rows_out c w rule n d f
+
+    -- ---- no coefficient beyond the unknowns
+
+    few_syms : (d : List ℕ) (f : ℕ → Row) → ((j : ℕ) → j < length d → lead c (f j) ≡ 0) → Along (Sym Few) (placed d f) (placed d f)
+    few_syms [] f k = nil
+    few_syms (s ∷ d) f k = cons (one s) (few_syms d (λ (j : ℕ). f (suc j)) (λ j p. k (suc j) (omega arith)))
+      where
+        low : lead c (f 0) ≤ g
+        low = let z = k 0 (omega arith) in omega arith
+
+        one : (s : ℕ) → Sym Few (held s (f 0)) (held s (f 0))
+        one zero = known low
+        one (suc zero) = known low
+        one (suc (suc s)) = gone
+
+    few_out : BoundOut Few O O
+    few_out = decode_bound g (row_values c w) (row_values c w) lead_bound rule n (few_syms d f bare) {s = start} {t = start} (record { us = nil; next = refl; eqs = nil }) within
+
+    pub lane-within : Within c g O.block × ((r : ℕ) → Within c g (rows_system c w rule n d f r))
+    lane-within = (
+      each_along few_out.block,
+      λ r. each_along (along_append few_out.after.eqs (checks_bound g (row_values c w) (row_values c w) lead_bound r (tab (2 ^ n) rule) few_out.after.us)),
+    )
 
     -- ---- at bits t for the unknowns
 
@@ -117,14 +157,11 @@ module _ (c w g : ℕ) (hc : c < w) (hg : g ≤ 64 * c) where
             record {
               plus = λ {a} {a'} p q. value_hom κ K.hom t a a' ∙ ap₂ ◌⊕◌ p q;
               nought = ap₂ ◌⊕◌ (dot-nought w t) K.nought;
-              unit =
-                  ap₂ ◌⊕◌ (ap (λ (x : Row). dot 0 x t) (unit_row_lem c w) ∙ dot-unknown w (64 * c) t unit_word_lem ∙ get_or-eq_default t false (omega arith))
-                  K.unit;
+              unit = ap₂ ◌⊕◌ (ap (λ (x : Row). dot 0 x t) (unit_row_lem c w) ∙ dot-unknown w (64 * c) t unit_word_lem ∙ get_or-eq_default t false (omega arith)) K.unit;
               unknown = λ k l. ap₂ ◌⊕◌ (dot-unknown w k t (coefficients k l)) (K.unknown k l) ∙ ⊕-false (assign t k);
             }
 
-        lane-syms : (d : List ℕ) (f : ℕ → Row) → ((j : ℕ) → j < length d → dot 0 (f j) t ≡ false)
-            → Along (Sym (Graph h)) (placed d f) (map (symbol (bits (assign t))) (lane_word κ d f))
+        lane-syms : (d : List ℕ) (f : ℕ → Row) → ((j : ℕ) → j < length d → dot 0 (f j) t ≡ false) → Along (Sym (Graph h)) (placed d f) (map (symbol (bits (assign t))) (lane_word κ d f))
         lane-syms [] f k = nil
         lane-syms (s ∷ d) f k = cons (one s) (lane-syms d (λ (j : ℕ). f (suc j)) (λ j p. k (suc j) (omega arith)))
           where
@@ -145,9 +182,7 @@ module _ (c w g : ℕ) (hc : c < w) (hg : g ≤ 64 * c) where
 
         lane-out : BoundOut (Graph h) O (run (bits (assign t)) rule n lane)
         unfolding run
-        lane-out =
-            decode_bound g (row_values c w) (bits (assign t)) lane_bound rule n (lane-syms d f no-sum) {s = start} {t = start}
-            (record { us = nil; next = refl; eqs = nil }) within
+        lane-out = decode_bound g (row_values c w) (bits (assign t)) lane_bound rule n (lane-syms d f no-sum) {s = start} {t = start} (record { us = nil; next = refl; eqs = nil }) within
 
         lane-block : map h O.block ≡ x_at rule n lane t
         unfolding x_at
@@ -157,8 +192,7 @@ module _ (c w g : ℕ) (hc : c < w) (hg : g ≤ 64 * c) where
         unfolding solves system
         lane-solves r =
             sym (all_map h not (rows_system c w rule n d f r))
-            ∙ ap (all not) (along_map h (along_append lane-out.after.eqs (checks_bound g (row_values c w) (bits (assign t)) lane_bound r (tab (2 ^ n) rule)
-            lane-out.after.us)))
+            ∙ ap (all not) (along_map h (along_append lane-out.after.eqs (checks_bound g (row_values c w) (bits (assign t)) lane_bound r (tab (2 ^ n) rule) lane-out.after.us)))
 
       -- ---- the law
 
@@ -175,12 +209,10 @@ module _ (c w g : ℕ) (hc : c < w) (hg : g ≤ 64 * c) where
       -- the verdict, off the rows that the solver leaves
       pub lane-verdict : length d ≡ 2 ^ n → unknowns n (tab (2 ^ n) rule) d ≡ g → early 0 (tab (2 ^ n) rule) ≡ true → (r m : ℕ) (out : List ℕ)
           → (let e = rows_system c w rule n d f r in
-          verdict n g m (candidates n (tab (2 ^ n) rule) r lane) out ≡ verdict_by c κ (strips_by c κ (solve c e O.block).rest) g m (solve c e O.block)
-          out)
+          verdict n g m (candidates n (tab (2 ^ n) rule) r lane) out ≡ verdict_by c κ (strips_by c κ (solve c e O.block).rest) g m (solve c e O.block) out)
       lane-verdict ld eg ok r m out =
-          let W = lane-within c w g hc hg rule n d f within bare in
           ap (λ (cs : List (List Bool)). verdict n g m cs out) (lane-candidates ld eg ok r)
-          ∙ verdict-rows c κ K.hom (rows_system c w rule n d f r) O.block g hg (W.1 r) W.0 n (rows_sizes c w rule n d f ld).0 m out
+          ∙ verdict-rows c κ K.hom (rows_system c w rule n d f r) O.block g hg (lane-within.1 r) lane-within.0 n (rows_sizes c w rule n d f ld).0 m out
 
 -- ---- the decoder's constant
 
@@ -192,9 +224,7 @@ module _ (c w : ℕ) (hc : c < w) where
   constant-unit = ap (has (64 * c)) (unit_row_lem c w) ∙ has_same w (64 * c) behind
 
   pub unit-bare : lead c (unit_row c w) ≡ 0
-  unit-bare =
-      let l = lead-within c 0 (unit_row c w) (λ t p q. ap (has t) (unit_row_lem c w) ∙ has_other w (64 * c) behind t (λ (e : t ≡ 64 * c). omega arith)) in
-      omega arith
+  unit-bare = let l = lead-within c 0 (unit_row c w) (λ t p q. ap (has t) (unit_row_lem c w) ∙ has_other w (64 * c) behind t (λ (e : t ≡ 64 * c). omega arith)) in omega arith
 
   pub constant-constant : (g : ℕ) → g ≤ 64 * c → Constant c w g (constant c)
   constant-constant g hg =

@@ -15,13 +15,14 @@ use mathlib.Core.List.Memᴰ
 use mathlib.Core.List.{List, [], ◌∷◌, ◌++◌, map, Memᴰ}
 use lib.ListN.{length, get_or}
 use lib.Pow.{pow_pos}
+use lib.Dec.{eqb}
 use borrow.Author.Tests.{ne_eqb}
-use Rattle.bits.specs.Vectors.{bit, all, filter, keep, tab, before, Before, Rises}
+use Rattle.bits.specs.Vectors.{bit, pick, all, filter, keep, tab, before, Before, Rises}
 use Rattle.bits.proofs.Tests.{and_i, all_mem, not-both}
 use Rattle.bits.proofs.Rising.{below_mem}
 use Rattle.meaning.specs.Strips.{common, settled_at, settled, first, last, strips}
-use Rattle.meaning.specs.Answers.{verdict, writing, foundOf}
-use Rattle.meaning.specs.declared.Answer.TheVariants.{Ambiguous}
+use Rattle.meaning.specs.Answers.{verdict, writing}
+use Rattle.meaning.specs.declared.Answer.TheVariants.{Unique, Ambiguous}
 use Rattle.meaning.proofs.Dimension.{dimension_pow}
 
 -- ---- functions and tests that are equal on the list
@@ -40,15 +41,13 @@ map-filter {A} {B} f f' p p' (x ∷ l) h =
 -- ---- the first and the last
 
 module _ (X : List Bool → List Bool) where
-  pub first_of : (l : List (List Bool)) (z : List Bool) → Rises Before l → Memᴰ z l → ((y : List Bool) → Memᴰ y l → before y z ≡ false)
-      → first (map X l) ≡ map bit (X z)
+  pub first_of : (l : List (List Bool)) (z : List Bool) → Rises Before l → Memᴰ z l → ((y : List Bool) → Memᴰ y l → before y z ≡ false) → first (map X l) ≡ map bit (X z)
   first_of [] z r m h = absurd (Memᴰ.not-nil m)
   first_of (x ∷ l) z r m h =
       ap (λ (y : List Bool). map bit (X y))
       (⊎_elim (λ e. sym e) (λ k. absurd (not-both (below_mem Before x l r.0 z k) (h x (Memᴰ.head refl)))) (Memᴰ.cases_cons m))
 
-  pub last_of : (l : List (List Bool)) (z : List Bool) → Rises Before l → Memᴰ z l → ((y : List Bool) → Memᴰ y l → before z y ≡ false)
-      → last (map X l) ≡ map bit (X z)
+  pub last_of : (l : List (List Bool)) (z : List Bool) → Rises Before l → Memᴰ z l → ((y : List Bool) → Memᴰ y l → before z y ≡ false) → last (map X l) ≡ map bit (X z)
   last_of [] z r m h = absurd (Memᴰ.not-nil m)
   last_of (x ∷ []) z r m h = ap (λ (y : List Bool). map bit (X y)) (⊎_elim (λ e. sym e) (λ k. absurd (Memᴰ.not-nil k)) (Memᴰ.cases_cons m))
   last_of (x ∷ y ∷ l) z r m h =
@@ -85,11 +84,9 @@ module _ {A B : Type 0} (d : A) where
   tab_places zero f h [] l e = refl
   tab_places zero f h (a ∷ s) l e = absurd (omega arith)
   tab_places (suc m) f h [] l e = absurd (omega arith)
-  tab_places (suc m) f h (a ∷ s) l e =
-      ap₂ {C = List B} ◌∷◌ (e zero (omega arith)) (tab_places m (λ (j : ℕ). f (suc j)) h s (suc_inj l) (λ j k. e (suc j) (omega arith)))
+  tab_places (suc m) f h (a ∷ s) l e = ap₂ {C = List B} ◌∷◌ (e zero (omega arith)) (tab_places m (λ (j : ℕ). f (suc j)) h s (suc_inj l) (λ j k. e (suc j) (omega arith)))
 
-pub places : {A : Type 0} (d : A) (v : A → Bool) (h : A → ℕ) (r s : List A) → length s ≡ length r
-    → ((j : ℕ) → j < length r → bit (v (get_or r j d)) ≡ h (get_or s j d))
+pub places : {A : Type 0} (d : A) (v : A → Bool) (h : A → ℕ) (r s : List A) → length s ≡ length r → ((j : ℕ) → j < length r → bit (v (get_or r j d)) ≡ h (get_or s j d))
     → map bit (map v r) ≡ map h s
 places d v h [] [] l e = refl
 places d v h [] (b ∷ s) l e = absurd (omega arith)
@@ -107,12 +104,11 @@ verdict-none n g m [] out h = refl
 verdict-none n g m (x ∷ cs) out h = absurd (omega arith)
 
 pub verdict-is : (n g m : ℕ) (cs : List (List Bool)) (out : List ℕ) (d : ℕ) → length cs ≡ 2 ^ d
-    → verdict n g m cs out ≡ writing (strips n cs) out (foundOf g m d)
+    → verdict n g m cs out ≡ pick (eqb d 0) (writing (strips n cs) out (Unique g m)) (writing (strips n cs) out (Ambiguous g m d))
 unfolding verdict
 verdict-is n g m [] out d h = absurd (omega (arith, pow_pos d))
 verdict-is n g m (x ∷ []) out zero h = refl
 verdict-is n g m (x ∷ []) out (suc d) h = absurd (omega (arith, pow_pos d))
 verdict-is n g m (x ∷ y ∷ cs) out zero h = absurd (omega arith)
 verdict-is n g m (x ∷ y ∷ cs) out (suc d) h =
-    rw (ne_eqb (suc d) 0 (λ (q : suc d ≡ 0). omega arith)) (ap (λ (k : ℕ). writing (strips n (x ∷ y ∷ cs)) out (Ambiguous g m k))
-    (dimension_pow (x ∷ y ∷ cs) (suc d) h))
+    rw (ne_eqb (suc d) 0 (λ (q : suc d ≡ 0). omega arith)) (ap (λ (k : ℕ). writing (strips n (x ∷ y ∷ cs)) out (Ambiguous g m k)) (dimension_pow (x ∷ y ∷ cs) (suc d) h))

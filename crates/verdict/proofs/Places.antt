@@ -11,6 +11,7 @@ use mathlib.Core.Bool.{Bool, true, false}
 use mathlib.Core.List.Memᴰ
 use mathlib.Core.List.{List, [], ◌++◌, map, Memᴰ}
 use lib.ListN.{length, get_or, replicate, length-map, length-set, length-replicate, replicate-append-replicate}
+use lib.Dec.{eqb}
 use borrow.Author.Tests.{eq-eqb, ne_eqb}
 use Rattle.bits.specs.Vectors.{◌⊕◌, bit, pick, filter, all_bits, Before}
 use Rattle.bits.specs.Rows.{Row, at}
@@ -21,10 +22,10 @@ use Rattle.gf2.specs.Solve.{lead, solve}
 use Rattle.gf2.specs.System.{Within, Hom, dot, value, solves, consistent, completed, unit}
 use Rattle.gf2.proofs.Sums.{dot_append, dot-none}
 use Rattle.gf2.proofs.Leads.{lead_above}
-use Rattle.gf2.proofs.Solutions.{after, rest, rest-length, length-completed, rest-within, completed-solves}
-use Rattle.gf2.proofs.Solutions.{first_solution, last_solution, solution_count, settled, rest-by-free, first-value, unsettled}
+use Rattle.gf2.proofs.Solutions.{after, rest, rest-length, length-completed, rest-within, completed-solves, first_solution, last_solution, solution_count, settled, rest-by-free, first-value, unsettled}
 use Rattle.meaning.specs.Strips.{settled_at, first, last, strips}
-use Rattle.meaning.specs.Answers.{verdict, writing, foundOf}
+use Rattle.meaning.specs.Answers.{verdict, writing}
+use Rattle.meaning.specs.declared.Answer.TheVariants.{Unique, Ambiguous}
 use Rattle.verdict.specs.OffRows.{settled_by, first_by, last_by, strips_by, verdict_by}
 use Rattle.verdict.proofs.Listing.{first_of, last_of, common-same, common_other, tab_places, places, strips_are, verdict-none, verdict-is}
 
@@ -77,8 +78,7 @@ module _ (c : ℕ) (κ : Row → Bool) (hom : Hom κ) (e r : List Row) (g : ℕ)
           let y = length-replicate {A = Bool} k true in
           ap (λ (m : ℕ). dot 0 x (replicate m true)) (sym n) ∙ ap (dot 0 x) (sym (replicate-append-replicate g k true))
           ∙ dot_append 0 x (replicate g true) (replicate k true)
-          ∙ ap (λ (b : Bool). dot 0 x (replicate g true) ⊕ b) (dot-none (0 + length (replicate g true)) x (replicate k true)
-          (λ t p q. lead_above c x t (omega (arith, rest-within c e r g B C j h)) (omega arith)))
+          ∙ ap (λ (b : Bool). dot 0 x (replicate g true) ⊕ b) (dot-none (0 + length (replicate g true)) x (replicate k true) (λ t p q. lead_above c x t (omega (arith, rest-within c e r g B C j h)) (omega arith)))
           ∙ ⊕-false (dot 0 x (replicate g true))
 
       the_last : last (map block solutions) ≡ map (last_by c κ) (rest c e r)
@@ -86,8 +86,7 @@ module _ (c : ℕ) (κ : Row → Bool) (hom : Hom κ) (e r : List Row) (g : ℕ)
           last_of block solutions highest (rises_filter Before (solves κ e) (all_bits g) (rises_bits g)) (full (replicate g true) (length-replicate g true))
           (λ y m. let (l, s) = member y m in last_solution c e r κ hom g hg B y l s)
           ∙ places [] (value κ highest) (last_by c κ) r (rest c e r) sized
-          (λ j l. ap bit (rest-by-free c e r κ hom g hg B ok (replicate g true) (length-replicate g true) j l)
-          ∙ ap (λ (b : Bool). bit (b ⊕ κ (at (rest c e r) j))) (sym (sum-all j l)))
+          (λ j l. ap bit (rest-by-free c e r κ hom g hg B ok (replicate g true) (length-replicate g true) j l) ∙ ap (λ (b : Bool). bit (b ⊕ κ (at (rest c e r) j))) (sym (sum-all j l)))
 
       pub settled_at_lem : (j : ℕ) → j < length r → settled_at (map block solutions) j ≡ settled_by c κ (at (rest c e r) j)
       settled_at_lem j h = go (lead c (at (rest c e r) j)) refl
@@ -120,8 +119,7 @@ module _ (c : ℕ) (κ : Row → Bool) (hom : Hom κ) (e r : List Row) (g : ℕ)
       the_strips n l =
           strips_are n (map block solutions)
           ∙ ap₂ (λ (a b : List ℕ). a ++ b)
-          (ap₂ (λ (a b : List ℕ). a ++ b) (tab_places [] (2 ^ n) (settled_at (map block solutions)) (settled_by c κ) (rest c e r) (sized ∙ l)
-          (λ j h. settled_at_lem j (omega arith))) the_first)
+          (ap₂ (λ (a b : List ℕ). a ++ b) (tab_places [] (2 ^ n) (settled_at (map block solutions)) (settled_by c κ) (rest c e r) (sized ∙ l) (λ j h. settled_at_lem j (omega arith))) the_first)
           the_last
 
   -- ---- the verdict
@@ -134,10 +132,9 @@ module _ (c : ℕ) (κ : Row → Bool) (hom : Hom κ) (e r : List Row) (g : ℕ)
       d : ℕ
       d = g - (solve c e r).rank
 
-      go : (b : Bool) → consistent c κ (after c e r) ≡ b
-          → verdict n g m (map block solutions) out ≡ verdict_by c κ (strips_by c κ (rest c e r)) g m (solve c e r) out
+      go : (b : Bool) → consistent c κ (after c e r) ≡ b → verdict n g m (map block solutions) out ≡ verdict_by c κ (strips_by c κ (rest c e r)) g m (solve c e r) out
       go true q =
           rw q
           (verdict-is n g m (map block solutions) out d (rw q at size)
-          ∙ ap (λ (s : List ℕ). writing s out (foundOf g m d)) (the_strips q C n l))
+          ∙ ap (λ (s : List ℕ). pick (eqb d 0) (writing s out (Unique g m)) (writing s out (Ambiguous g m d))) (the_strips q C n l))
       go false q = rw q (verdict-none n g m (map block solutions) out (rw q at size))

@@ -2,16 +2,16 @@
 --     settled_by, first_by, last_by         what the row of one symbol says of it: its settled value, its first and its last
 --     strips_by c κ rs                    the output of decoding, from the rows of all symbols
 --     verdict_by c κ new g m s out        the reply with the output `new`, from the system s that the solver leaves
--- The decoder's rows have their constant in bit 0 of word c (`model`'s RowValues).
+-- The decoder's rows have their constant in bit 0 of word c.
+--     constant c x                       the row's constant
 --     row_settled, row_first, row_last, row_strips, row_verdict      the same by this constant
-use Rattle.std.specs.Prelude.{ℕ, ◌-◌, ◌*◌, Bool, true, List, ◌++◌, map, replicate}
+use Rattle.std.specs.Prelude.{ℕ, ◌-◌, ◌*◌, Bool, true, List, ◌++◌, map, replicate, eqb}
 use Rattle.bits.specs.Vectors.{◌⊕◌, bit, pick}
-use Rattle.bits.specs.Rows.{Row}
+use Rattle.bits.specs.Rows.{Row, has}
 use Rattle.gf2.specs.Solve.{Sys}
 use Rattle.gf2.specs.System.{led, dot, consistent}
-use Rattle.meaning.specs.Answers.{Reply, leaving, writing, foundOf}
-use Rattle.meaning.specs.declared.Answer.TheVariants.{Inconsistent}
-use Rattle.model.specs.RowValues.{constant}
+use Rattle.meaning.specs.Answers.{Reply, leaving, writing}
+use Rattle.meaning.specs.declared.Answer.TheVariants.{Unique, Ambiguous, Inconsistent}
 
 -- ---- by any constant
 
@@ -35,9 +35,16 @@ module _ (c : ℕ) (κ : Row → Bool) where
   -- g unknowns, m equations; g - rank of the unknowns are free
   abbrev pub verdict_by : List ℕ → ℕ → ℕ → Sys → List ℕ → Reply
   verdict_by new g m s out =
-      pick (consistent c κ s.eqs) (writing new out (foundOf g m (g - s.rank))) (leaving out (Inconsistent g m))
+      let d = g - s.rank in
+      pick (consistent c κ s.eqs)
+      (pick (eqb d 0) (writing new out (Unique g m)) (writing new out (Ambiguous g m d)))
+      (leaving out (Inconsistent g m))
 
 -- ---- by the decoder's
+
+-- bit 0 of word c
+abbrev pub constant : ℕ → Row → Bool
+constant c x = has (64 * c) x
 
 abbrev pub row_settled : ℕ → Row → ℕ
 row_settled c x = settled_by c (constant c) x

@@ -1,26 +1,24 @@
--- What the code reads off a list of words: rows of w words, c of them coefficients, the constant in bit 0 of the next.
---     fits c w k n              n words are whole rows, each with the constant's word and k more behind the coefficients
---     agreeable c x             the row has a coefficient or the constant 0
---     sound c w eqs             every equation is; not so where `eqs` are no whole rows
---     stripped c w vals out     the output that starts with the strips; as found where `vals` are no whole rows or it is too short
-use Rattle.std.specs.Prelude.{ℕ, ◌+◌, ◌*◌, ◌/◌, ◌%◌, Bool, ◌&&◌, ◌||◌, not, List, ◌++◌, length, drop, eqb, leb, ltb}
-use Rattle.bits.specs.Vectors.{pick}
-use Rattle.bits.specs.Rows.{Row, rows_of}
-use Rattle.gf2.specs.System.{led, consistent}
-use Rattle.model.specs.RowValues.{constant}
-use Rattle.verdict.specs.OffRows.{row_strips}
-
-unfoldable pub fits : ℕ → ℕ → ℕ → ℕ → Bool
-fits c w k n = ltb (c + k) w && eqb (n % w) 0
+-- Rows of w words: c words of coefficients, then the constant in bit 0 of word c.
+--     agreeable c x                           the row has a coefficient or the constant 0
+--     settled_words, first_words, last_words     the strips of n symbols
+--     sound                                   no equation of the first m without coefficients has the constant 1
+use Rattle.std.specs.Prelude.{ℕ, Bool, ◌||◌, not, List}
+use Rattle.bits.specs.Vectors.{tab, all}
+use Rattle.bits.specs.Rows.{Row, row}
+use Rattle.gf2.specs.System.{led}
+use Rattle.verdict.specs.OffRows.{constant, row_settled, row_first, row_last}
 
 abbrev pub agreeable : ℕ → Row → Bool
 agreeable c x = led c x || not (constant c x)
 
-unfoldable pub sound : ℕ → ℕ → List ℕ → Bool
-sound c w eqs = fits c w 0 (length eqs) && consistent c (constant c) (rows_of w eqs)
+unfoldable pub settled_words : ℕ → ℕ → List ℕ → ℕ → List ℕ
+settled_words c w l n = tab n (λ (j : ℕ). row_settled c (row w l j))
 
--- 3 bytes for each symbol
-unfoldable pub stripped : ℕ → ℕ → List ℕ → List ℕ → List ℕ
-stripped c w vals out =
-    let size = 3 * (length vals / w) in
-    pick (fits c w 0 (length vals) && leb size (length out)) (row_strips c (rows_of w vals) ++ drop size out) out
+unfoldable pub first_words : ℕ → ℕ → List ℕ → ℕ → List ℕ
+first_words c w l n = tab n (λ (j : ℕ). row_first c (row w l j))
+
+unfoldable pub last_words : ℕ → ℕ → List ℕ → ℕ → List ℕ
+last_words c w l n = tab n (λ (j : ℕ). row_last c (row w l j))
+
+unfoldable pub sound : ℕ → ℕ → List ℕ → ℕ → Bool
+sound c w l m = all (agreeable c) (tab m (row w l))

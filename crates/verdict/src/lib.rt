@@ -1,80 +1,95 @@
-// What the rows that the solver leaves say of one word: whether its equations agree, and its strips. A row has `words` words:
-// `coeffs` of coefficients, the constant in bit 0 of the next, and any that ride along behind. Every function is total. Where
-// a slice is no whole number of such rows, or the output too short, nothing is written and nothing is sound.
-ghost use Rattle.std.specs.Prelude.{◌≡◌, ◌++◌, ◌+◌, ◌*◌, ◌≤◌, ◌<◌, length, set};
-ghost use Rattle.verdict.specs.OffRows.{row_settled, row_first, row_last};
-ghost use Rattle.verdict.specs.Words.{fits, sound, stripped};
+// The verdict, read off the rows that the solver leaves: the answer and the strips. A row has w words: c of coefficients, the
+// constant in bit 0 of the next, and any that ride along behind. Total: what does not fit together is refused.
+ghost use Rattle.std.specs.Prelude.{◌≡◌, ◌*◌, ◌/◌, ◌≤◌, ◌<◌, ◌++◌, length, drop};
+ghost use Rattle.bits.specs.Rows.{rows_of};
+ghost use Rattle.gf2.specs.Solve.{sys};
+ghost use Rattle.meaning.specs.Answers.{reply};
+ghost use Rattle.verdict.specs.OffRows.{row_strips, row_verdict};
+ghost use Rattle.verdict.specs.Concluding.{fits, concluding};
 
 mod row;
+mod strips;
 
-use bits::rows::Width;
+use meaning::Answer;
 
-// Whether n words are whole rows of this width, each with the constant's word and k more behind the coefficients.
-pub fn fits(width: Width, k: usize, n: usize) -> bool
-    ensures { result ≡ fits width.coeffs width.words k n }
+// Whether these widths, numbers, lengths and room fit together.
+fn fits(c: usize, w: usize, g: usize, rank: usize, eqs: usize, vals: usize, room: usize) -> bool
+    ensures { result ≡ fits c w g rank eqs vals room }
 {
-    let c = width.coeffs;
-    let w = width.words;
     if w <= c {
         return false;
     }
-    if w - c <= k {
+    if g < rank {
         return false;
     }
-    n % w == 0
-}
-
-// Whether every equation has a coefficient or the constant 0.
-pub fn sound(width: Width, eqs: &[u64]) -> bool
-    ensures { result ≡ sound width.coeffs width.words eqs.now }
-{
-    if !fits(width, 0, eqs.len()) {
+    if eqs % w != 0 {
         return false;
     }
-    let c = width.coeffs;
-    let w = width.words;
-    let m = eqs.len() / w;
-    let mut i = 0;
-    while i < m {
-        let at = i * w;
-        if !row::agreeable(&eqs[at..at + w], c) {
-            return false;
-        }
-        i += 1;
+    if vals % w != 0 {
+        return false;
     }
-    true
+    vals / w <= room / 3
 }
 
-// What the row of symbol j of n says of it, in the place of each strip: its settled value, its first and its last.
-fn write_symbol(x: &[u64], c: usize, out: &mut [u8], n: usize, j: usize)
-    requires { (c < length x.now) × (j < n) × (3 * n ≤ length out.old) }
-    ensures { out.new
-        ≡ set (set (set out.old j (row_settled c x.now)) (n + j) (row_first c x.now))
-        (2 * n + j) (row_last c x.now) }
+// Writes the settled strip, the first and the last candidate; later bytes are as found.
+fn write(c: usize, w: usize, vals: &[u64], out: &mut [u8])
+    requires { (c < w) × (length vals.now ≡ length vals.now / w * w) × (3 * (length vals.now / w) ≤ length out.old) }
+    ensures { out.new ≡ row_strips c (rows_of w vals.now) ++ drop (3 * (length vals.now / w)) out.old }
 {
-    out[j] = row::settled(x, c);
-    out[n + j] = row::first(x, c);
-    out[2 * n + j] = row::last(x, c);
+    let size = vals.len() / w;
+    strips::settled(vals, c, w, &mut out[0..size]);
+    strips::first(vals, c, w, &mut out[size..2 * size]);
+    strips::last(vals, c, w, &mut out[2 * size..3 * size]);
 }
 
-// Writes 3 bytes for each symbol, of which `vals` has the rows: the settled strip (2 where a coefficient is left), the symbols
-// where all unknowns are 0, and those where all are 1; later bytes are as found.
-pub fn write_strips(width: Width, vals: &[u64], out: &mut [u8])
-    ensures { out.new ≡ stripped width.coeffs width.words vals.now out.old }
+// `conclude`, where all fits together.
+fn read(
+    c: usize,
+    w: usize,
+    g: usize,
+    m: usize,
+    rank: usize,
+    eqs: &[u64],
+    vals: &[u64],
+    out: &mut [u8],
+) -> Answer
+    requires c_lt_w { (c < w) × (length vals.now ≡ length vals.now / w * w) × (3 * (length vals.now / w) ≤ length out.old) }
+    requires rank_le_g { (rank ≤ g) × (length eqs.now ≡ length eqs.now / w * w) }
+    ensures { reply out.new result ≡ row_verdict c g m (sys (rows_of w eqs.now) (rows_of w vals.now) rank) out.old }
 {
-    if !fits(width, 0, vals.len()) {
-        return;
+    if !strips::sound(eqs, c, w) {
+        return Answer::Inconsistent { g, m };
     }
-    let c = width.coeffs;
-    let w = width.words;
-    let n = vals.len() / w;
-    if out.len() / 3 < n {
-        return;
+    write(c, w, vals, out);
+    let d = g - rank;
+    if d == 0 {
+        return Answer::Unique { g, m };
     }
-    let mut j = 0;
-    while j < n {
-        let at = j * w;
-        write_symbol(&vals[at..at + w], c, out, n, j);
-        j += 1;
+    Answer::Ambiguous { g, m, d }
+}
+
+// Says what the solver's rows know, over g unknowns: `eqs` the equations, `rank` of them with a pivot, and `vals` the symbols;
+// rows of w words, the first c of them coefficients.
+// Answers Inconsistent where an equation has no coefficient and the constant 1; else Unique where the rank is g, or Ambiguous
+// with dimension d = g - rank. Each with g, and with m, the number of equations that the caller counts. Unique and Ambiguous
+// write 3 bytes a symbol: the settled strip (2 where a coefficient is left), the symbols where all unknowns are 0, and those
+// where all are 1; later bytes are as found.
+// Answers BadShape where no word is behind the coefficients, the rank is above g, a slice is no whole number of rows, or the
+// output is shorter than 3 bytes a symbol. BadShape and Inconsistent leave the output as found.
+pub fn conclude(
+    c: usize,
+    w: usize,
+    g: usize,
+    m: usize,
+    rank: usize,
+    eqs: &[u64],
+    vals: &[u64],
+    out: &mut [u8],
+) -> Answer
+    ensures { reply out.new result ≡ concluding c w g m rank eqs.now vals.now out.old }
+{
+    if !fits(c, w, g, rank, eqs.len(), vals.len(), out.len()) {
+        return Answer::BadShape;
     }
+    read(c, w, g, m, rank, eqs, vals, out)
 }

@@ -41,8 +41,7 @@ module _ (strip : Bor (List ℕ)) (n at : ℕ) where
 
   -- in the words of the code, k being where the record starts
   pub view_there : has_record n at (length strip.now) ≡ true → (k : ℕ) → k ≡ at * cartridge_bytes
-      → (take (k + cartridge_bytes - k) (drop k strip.now) ≡ record_of strip.now n at)
-      × (◌≡◌ {A = ℕ × ℕ} (strip.ptr.0, k + strip.ptr.1) (place_of strip n at))
+      → (take (k + cartridge_bytes - k) (drop k strip.now) ≡ record_of strip.now n at) × (◌≡◌ {A = ℕ × ℕ} (strip.ref_ptr.0, k + strip.ref_ptr.1) (place_of strip n at))
   unfolding record_of place_of
   view_there h k e =
       let s : k + cartridge_bytes - k ≡ cartridge_bytes = omega arith in

@@ -32,8 +32,7 @@ abbrev pub Lacks : List ℕ → ℕ → ℕ → Type 0
 Lacks strip n at = (largest_n < n) ⊎ ((2 ^ n ≤ at) ⊎ (length strip ≡ 2 ^ n * cartridge_bytes → ⊥))
 
 -- the record where there is one
-record_there : (strip : List ℕ) (n at : ℕ) → n ≤ largest_n → at < 2 ^ n
-    → length strip ≡ 2 ^ n * cartridge_bytes → record_of strip n at ≡ row cartridge_bytes strip at
+record_there : (strip : List ℕ) (n at : ℕ) → n ≤ largest_n → at < 2 ^ n → length strip ≡ 2 ^ n * cartridge_bytes → record_of strip n at ≡ row cartridge_bytes strip at
 unfolding record_of
 record_there strip n at a b c = rw (there n at (length strip) a b c) refl
 
@@ -41,8 +40,7 @@ module _ (strip : List ℕ) (n at : ℕ) (r : List ℕ) (p : r ≡ record_of str
   pub lacks_empty : Lacks strip n at → r ≡ []
   unfolding record_of
   lacks_empty h =
-      let e : has_record n at (length strip) ≡ false =
-      ⊎_elim (none_large n at (length strip)) (⊎_elim (none-behind n at (length strip)) (none_other n at (length strip))) h in
+      let e : has_record n at (length strip) ≡ false = ⊎_elim (none_large n at (length strip)) (⊎_elim (none-behind n at (length strip)) (none_other n at (length strip))) h in
       p ∙ rw e refl
 
   module _ (a : n ≤ largest_n) (b : at < 2 ^ n) (c : length strip ≡ 2 ^ n * cartridge_bytes) where

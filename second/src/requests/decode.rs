@@ -43,7 +43,7 @@ fn all_lost(rng: &mut Rng, code: &Code) -> Request {
 }
 
 /// The sheet that freezes these positions to these constants.
-pub fn plain(n: usize, r: usize, frozen: &[(usize, bool)]) -> Code {
+fn plain(n: usize, r: usize, frozen: &[(usize, bool)]) -> Code {
     let mut records = vec![Record::default(); 1 << n];
     for &(i, constant) in frozen {
         records[i].frozen = true;

@@ -152,7 +152,7 @@ fn every_burst() -> Vec<Request> {
 
 /// A code at random, or one with the free positions of the most ones, one of dense masks, or one
 /// with the fewest free positions that r allows.
-pub fn any_code(rng: &mut Rng, n: usize, r: usize) -> Code {
+fn any_code(rng: &mut Rng, n: usize, r: usize) -> Code {
     match rng.below(8) {
         0..=1 => {
             let k = rng.within(r + 1, 1 << n);
@@ -166,7 +166,7 @@ pub fn any_code(rng: &mut Rng, n: usize, r: usize) -> Code {
 
 /// A codeword, one with one or a few symbols flipped, one of the code without its check, or a
 /// word at random.
-pub fn any_word(rng: &mut Rng, code: &Code) -> Vec<u8> {
+fn any_word(rng: &mut Rng, code: &Code) -> Vec<u8> {
     let flips = match rng.below(9) {
         0..=3 => 0,
         4..=5 => 1,
@@ -183,7 +183,7 @@ pub fn any_word(rng: &mut Rng, code: &Code) -> Vec<u8> {
 }
 
 /// The word with no loss, one, a run, any number by chance, as many as give a small g, or all.
-pub fn any_losses(rng: &mut Rng, code: &Code, word: &[u8]) -> Vec<u8> {
+fn any_losses(rng: &mut Rng, code: &Code, word: &[u8]) -> Vec<u8> {
     let length = word.len();
     let order = rng.order(length);
     match rng.below(16) {
@@ -207,7 +207,7 @@ pub fn any_losses(rng: &mut Rng, code: &Code, word: &[u8]) -> Vec<u8> {
 }
 
 /// Mostly the largest ceiling, else one about g or any.
-pub fn any_ceiling(rng: &mut Rng, code: &Code, word: &[u8]) -> usize {
+fn any_ceiling(rng: &mut Rng, code: &Code, word: &[u8]) -> usize {
     let g = count(code, word);
     match rng.below(10) {
         0 => g.max(1) - 1,

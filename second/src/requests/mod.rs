@@ -1,7 +1,6 @@
 // The requests that go into the vectors: one module or two for each op, and what their lists share.
 // Every list starts from a seed of its own, so that a new one changes no other.
 
-mod candidates;
 mod convert;
 mod decode;
 mod encode;
@@ -22,7 +21,7 @@ use crate::protocol::Request;
 pub use parts::Code;
 
 /// The ops that go into the vectors, in their order.
-pub const OPS: [u16; 10] = [0, 1, 2, 3, 4, 5, 7, 8, 9, 15];
+pub const OPS: [u16; 9] = [0, 1, 2, 3, 4, 5, 7, 8, 15];
 
 /// Every request of the vectors, in its order.
 pub fn all() -> Vec<Request> {
@@ -40,7 +39,6 @@ pub fn of(op: u16) -> Vec<Request> {
         5 => convert::all(),
         7 => strips::all(),
         8 => views::all(),
-        9 => candidates::all(),
         15 => end_to_end::all(),
         op => panic!("no op {op}"),
     }

@@ -4,7 +4,6 @@
 
 use crate::answer::Answer;
 use crate::calls;
-use crate::dense;
 use crate::layout::{Layout, Record, NEW, OLD};
 use crate::limits::{LARGEST_CEILING, LARGEST_EXPONENT};
 use crate::make::{
@@ -314,11 +313,6 @@ impl Code {
     pub fn decoded(&self, word: &[u8]) -> Answer {
         let mut out = vec![0; 3 << self.n];
         calls::decode(self.n, &self.sheet, self.r, LARGEST_CEILING, word, &mut out)
-    }
-
-    /// The dimension of a word, whatever its g; nothing where no codeword agrees.
-    pub fn dimension(&self, word: &[u8]) -> Option<usize> {
-        dense::agreeing(&self.read(), self.r, word).map(|found| found.d)
     }
 
     pub fn request(&self, op: u16, ceiling: usize, b: Vec<u8>, o: usize) -> Request {

@@ -127,21 +127,10 @@ pub fn word(rng: &mut Rng, n: usize, g: usize, case: Case, turn: usize) -> (Code
         }
         _ => 0,
     };
-    with(rng, n, g, case, d)
-}
-
-/// A code, and a word of g unknowns and dimension d.
-pub fn of_dimension(rng: &mut Rng, n: usize, g: usize, r: usize, d: usize) -> (Code, Vec<u8>) {
-    let verdict = if d == 0 { UNIQUE } else { AMBIGUOUS };
-    with(rng, n, g, Case { r, verdict }, d)
-}
-
-/// A code, and a word of g unknowns that gets this verdict with dimension d.
-fn with(rng: &mut Rng, n: usize, g: usize, case: Case, d: usize) -> (Code, Vec<u8>) {
     loop {
         let (code, word) = attempt(rng, n, g, case, d);
         let answer = code.decoded(&word);
-        if (answer.code, usize::from(answer.d)) == (case.verdict, d) {
+        if (answer.code, usize::from(answer.d)) == (verdict, d) {
             return (code, word);
         }
     }

@@ -4,7 +4,6 @@
 #[path = "../common/mod.rs"]
 mod common;
 
-mod candidates;
 mod convert;
 mod decode;
 mod end_to_end;

@@ -8,7 +8,6 @@ use second::layout::{NEW, OLD};
 use second::limits::{CARTRIDGE_BYTES, RECORD_BYTES};
 use second::protocol::{write_answer, Request};
 use second::requests;
-use std::collections::BTreeMap;
 
 fn bytes_of(request: &Request) -> Vec<u8> {
     let mut bytes = Vec::new();
@@ -52,8 +51,7 @@ fn old_sheet_e() -> Vec<u8> {
     OLD.write(&NEW.read(3, &sheet_e()).unwrap())
 }
 
-/// A request of each op that works; the stream is of two words, the strips are one, and the word to list
-/// is unique.
+/// A request of each op that works; the stream is of two words, the strips are one.
 fn one_of_each() -> Vec<Request> {
     let strip = vec![0; 8 * CARTRIDGE_BYTES];
     let inputs = ["", "1000", "21111000", "01111000", "011110002", ""];
@@ -81,19 +79,7 @@ fn one_of_each() -> Vec<Request> {
         },
         o: 2 * ANSWER_BYTES + 8,
     });
-    let list = Request {
-        op: 9,
-        n: 3,
-        r: 0,
-        ceiling: 63,
-        a: sheet_e(),
-        b: symbols("21111000"),
-        c: Vec::new(),
-        o: 9,
-    };
-    let mut all: Vec<Request> = codes.chain(of_strips).chain([list]).collect();
-    all.sort_by_key(|request| request.op);
-    all
+    codes.chain(of_strips).collect()
 }
 
 #[test]
@@ -108,7 +94,7 @@ fn each_op_makes_its_call() {
         .collect();
     let of_words = [0, 8, 24, 4, 2 * ANSWER_BYTES, 8 * RECORD_BYTES];
     assert_eq!(written[..6], of_words);
-    assert_eq!(written[6..], [65 * 8, 64, 8, 16 + 65 * 8]);
+    assert_eq!(written[6..], [65 * 8, 64, 16 + 65 * 8]);
 }
 
 #[test]
@@ -123,7 +109,7 @@ fn requests_are_read_until_the_run_ends() {
         read
     };
     assert_eq!(read(&input), list);
-    assert_eq!(read(&input[..input.len() - 1]), list[..9], "cut off");
+    assert_eq!(read(&input[..input.len() - 1]), list[..8], "cut off");
     let ended = |change: fn(&mut Request), ends: bool| {
         let mut other = list[0].clone();
         change(&mut other);
@@ -142,8 +128,7 @@ fn requests_are_read_until_the_run_ends() {
     ended(|request| request.op = 6, true);
     ended(|request| request.op = 7, false);
     ended(|request| request.op = 8, false);
-    ended(|request| request.op = 9, false);
-    ended(|request| request.op = 10, true);
+    ended(|request| request.op = 9, true);
     ended(|request| request.op = 14, true);
     ended(|request| request.op = 15, false);
     ended(|request| request.op = 16, true);
@@ -158,7 +143,7 @@ fn the_vectors_follow_their_ops() {
 
 #[test]
 fn every_list_has_its_size() {
-    let mut sizes = BTreeMap::new();
+    let mut sizes = Vec::new();
     let mut counts = Vec::new();
     for op in requests::OPS {
         let list = answered(op);
@@ -169,16 +154,13 @@ fn every_list_has_its_size() {
             assert_eq!(Request::read(&mut &bytes[..]).as_ref(), Some(request));
             size += bytes.len() + 10 + request.o;
         }
-        sizes.insert(op, size);
+        sizes.push(size);
         counts.push(list.len());
     }
-    assert!(sizes.values().sum::<usize>() <= 37_000_000, "{sizes:?}");
-    let of_strips: usize = [7, 8, 15].map(|op| sizes[&op]).iter().sum();
+    assert!(sizes.iter().sum::<usize>() <= 35_000_000, "{sizes:?}");
+    let of_strips: usize = sizes[6..].iter().sum();
     assert!(of_strips <= 6_000_000, "{sizes:?}");
-    assert!(sizes[&9] <= 2_400_000, "{sizes:?}");
-    let least = [
-        3_500, 1_400, 6_000, 1_800, 450, 1_000, 1_500, 230, 1_300, 480,
-    ];
+    let least = [3_500, 1_400, 6_000, 1_800, 450, 1_000, 1_500, 230, 480];
     assert_eq!(counts.len(), least.len());
     assert!(
         counts

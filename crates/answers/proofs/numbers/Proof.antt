@@ -26,15 +26,11 @@ returns-10 c = sym (ap numbersOf c.before.a6.given.1)
 returns-13 : tie.Need-returns-13
 returns-13 c = sym (ap numbersOf c.before.a7.given.1)
 
-returns-15 : tie.Need-returns-15
-returns-15 c = sym (ap numbersOf c.before.a8.given.1)
-
 pub numbers-spec : {M : Type 1} → statement M
 numbers-spec =
     tie.close
     (tie.spec
-    (λ c. search rules) (λ c. search rules) (λ c. search rules) (λ c. search rules)
-    (λ c. search rules) (λ c. search rules) (λ c. search rules) (λ c. search rules)
+    (λ c. search rules) (λ c. search rules) (λ c. search rules) (λ c. search rules) (λ c. search rules) (λ c. search rules) (λ c. search rules)
     (λ c. search rules) (λ c. search rules) (λ c. search rules) (λ c. search rules) (λ c. search rules) (λ c. search rules) (λ c. search rules)
     (λ c. search rules) returns-2 returns-3 returns-4 returns-5 (λ c. search rules) returns-7 (λ c. search rules) (λ c. search rules) returns-10
-    (λ c. search rules) (λ c. search rules) returns-13 (λ c. search rules) returns-15)
+    (λ c. search rules) (λ c. search rules) returns-13 (λ c. search rules))

@@ -43,8 +43,7 @@ returns-2 c =
     let start = test.before.before.before.before.before.before.before in
     let size = length start.args.sheet.now / record_bytes in
     let lent : length (take (size - 0) start.args.out.now) ≡ size - 0 = simp length-take (omega (arith, (accepted_at test).roomy)) in
-    (accepted_at test).sent write-codeword.write-codeword.new.1.1.1.1.1.0 (size - 0)
-    (sym (write-codeword.write-codeword.auto.1.1.1.1.1.0 ∙ lent)) write-codeword.write-codeword.ensures
+    (accepted_at test).sent write-codeword.write-codeword.new.1.1.1.1.1.0 (size - 0) (sym (write-codeword.write-codeword.auto.1.1.1.1.1.0 ∙ lent)) write-codeword.write-codeword.ensures
 
 pub encode-in-spec : {M : Type 1} → statement M
 encode-in-spec =

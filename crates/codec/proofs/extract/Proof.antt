@@ -10,10 +10,7 @@ use Rattle.codec.proofs.extract.Statement.{statement}
 use Rattle.codec.proofs.extract.Tie as tie
 
 lawful-requires : tie.Need-lawful-requires
-lawful-requires c κs =
-    let call = c.before.before.before.before in
-    let start = call.before.before.before.before.before.before.before in
-    start.requires.0.0.behind call.vector-behind.new.1.1.0 call.vector-behind.ensures
+lawful-requires c κs = let call = c.before.before.before.before in c.before.before.before.before.before.before.before.before.before.before.before.requires.0.0.behind call.vector-behind.new.1.1.0 call.vector-behind.ensures
 
 returns : tie.Need-returns
 returns c =
@@ -21,21 +18,18 @@ returns c =
     let test = c.before.before.before.before.before.before in
     let law = c.before.before.before.before.before.before.before.before.before in
     let call = c.before.before.before.before.before.before.before.before.before.before.before.before.before.before in
-    let start = call.before.before.before.before.before.before.before in
+    let start = c.before.before.before.before.before.before.before.before.before.before.before.before.before.before.before.before.before.before.before.before.before in
     let f = law.lawful.new.1.1.1.0 in
     let m = start.args.m in
-    something _ _ _ call.vector-behind.new.1.1.0 start.requires.0.0.long
-    call.vector-behind.ensures _ _ _ _ law.lawful.ensures.0 test.if1.true
+    something _ _ _ call.vector-behind.new.1.1.0 start.requires.0.0.long call.vector-behind.ensures _ _ _ _ law.lawful.ensures.0 test.if1.true
     f copy.copy.new.1.0 law.lawful.ensures.1 (omega (arith, law.lawful.auto.1.1.1.0, start.requires.1.0))
-    (subst (λ (j : ℕ). copy.copy.new.1.0 ≡ take (length (take j f)) (take j f) ++ drop (length (take j f)) start.args.out.now)
-    (sub-zero m) copy.copy.ensures.1)
+    (subst (λ (j : ℕ). copy.copy.new.1.0 ≡ take (length (take j f)) (take j f) ++ drop (length (take j f)) start.args.out.now) (sub-zero m) copy.copy.ensures.1)
 
 returns-2 : tie.Need-returns-2
 returns-2 c =
     let law = c.before.before.before in
     let call = c.before.before.before.before.before.before.before.before in
-    let start = call.before.before.before.before.before.before.before in
-    nothing _ _ _ call.vector-behind.new.1.1.0 start.requires.0.0.long call.vector-behind.ensures _ _ _ _ law.lawful.ensures.0 c.if1.false
+    nothing _ _ _ call.vector-behind.new.1.1.0 c.before.before.before.before.before.before.before.before.before.before.before.before.before.before.before.requires.0.0.long call.vector-behind.ensures _ _ _ _ law.lawful.ensures.0 c.if1.false
 
 pub extract-spec : {M : Type 1} → statement M
 extract-spec =

@@ -39,9 +39,7 @@ extract-requires c κs =
     ((ok.legible _ lf, lu ∙ ok.long), (omega arith, ok.roomy))
 
 returns-2 : tie.Need-returns-2
-returns-2 c =
-    let at-extract = c.before.before.before.before.before.before.before in
-    (read_at at-extract.before.before.before.before).extracted_reads_back _ _ _ at-extract.extract.ensures c.outcome.ensures
+returns-2 c = (read_at c.before.before.before.before.before.before.before.before.before.before.before).told _ _ _ c.before.before.before.before.before.before.before.extract.ensures c.outcome.ensures
 
 pub read-in-spec : {M : Type 1} → statement M
 read-in-spec =

@@ -9,8 +9,7 @@ place-bits-requires c κs =
     let check = c.before.before.before.before in
     let start = check.before.before.before.before.before.before in
     let f = check.append.new.1.1.0 in
-    place_ready _ _ _ _ _ start.requires.0 start.args.x.now f start.requires.1 check.append.auto.1.1.0
-    (checked _ _ _ _ _ start.requires.0 start.args.free.now f refl check.append.ensures)
+    place_ready _ _ _ _ _ start.requires.0 start.args.x.now f start.requires.1 check.append.auto.1.1.0 (checked _ _ _ _ _ start.requires.0 start.args.free.now f refl check.append.ensures)
 
 returns : tie.Need-returns
 returns c =
@@ -19,8 +18,7 @@ returns c =
     let check = place.before.before.before.before.before in
     let start = check.before.before.before.before.before.before in
     let f = check.append.new.1.1.0 in
-    sent _ _ _ _ _ start.requires.0 start.args.x.now f start.requires.1 check.append.auto.1.1.0
-    (checked _ _ _ _ _ start.requires.0 start.args.free.now f refl check.append.ensures)
+    sent _ _ _ _ _ start.requires.0 start.args.x.now f start.requires.1 check.append.auto.1.1.0 (checked _ _ _ _ _ start.requires.0 start.args.free.now f refl check.append.ensures)
     place.place-bits.new.1.1.0 turn.transform.new.0 place.place-bits.ensures turn.transform.ensures
 
 pub write-codeword-spec : {M : Type 1} → statement M

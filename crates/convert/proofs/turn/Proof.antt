@@ -12,9 +12,7 @@ mul-k c = omega (arith, new-fits _ _ _ _ _ c.before.before.before.before.convert
 
 part-write-end : tie.Need-slice-bounds-write-end
 unfolding record_bytes mask_bytes old_record_bytes old_mask_bytes
-part-write-end c =
-    let b = c.before in
-    omega (arith, new-fits _ _ _ _ _ b.before.before.before.before.convert.ensures (sym b.before.is-done.ensures ∙ b.if1.true))
+part-write-end c = let b = c.before in omega (arith, new-fits _ _ _ _ _ b.before.before.before.before.convert.ensures (sym b.before.is-done.ensures ∙ b.if1.true))
 
 pub turn_spec : {M : Type 1} → statement M
 turn_spec =

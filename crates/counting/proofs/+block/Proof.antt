@@ -1,7 +1,6 @@
 use mathlib.Core.Path.{◌≡◌, sym, ap, ap₂, ◌∙◌}
 use Prim.Native.Nat.{ℕ, suc, ◌+◌, ◌-◌, ◌/◌, ◌^◌, ◌<◌}
 use native.Mathlib.Omega.{arith}
-use mathlib.Core.List.{List, ◌++◌}
 use lib.ListN.{length, take, drop, length-take, length-drop}
 use lib.Seq.{length-take-le}
 use borrow.Author.Rules.{rules}
@@ -9,241 +8,221 @@ use borrow.Author.Tests.{not-true}
 use Rattle.meaning.specs.Limits.{mask_bytes}
 use Rattle.counting.specs.Halves.{open_frees}
 use Rattle.bits.proofs.Parts.{half_of, from_back}
-use Rattle.counting.proofs.Counting.{counts-one, counts-most, counts-none, counts_halves}
+use Rattle.counting.proofs.Counting.{counts_one, counts-most, counts-none, counts_halves}
 use borrow.Fn.Kinds.{In}
 use borrow.Fn.PlainCycle.{Measures, is, falls, and}
 use Rattle.counting.proofs.block.Reads as block
 use Rattle.counting.proofs.block.Kinds as block-kinds
-use Rattle.counting.proofs.+block.Lts-block as lts
-use Rattle.counting.proofs.count_position.Reads as count-position
-use Rattle.counting.proofs.some_lost.Reads as some-lost
-use Rattle.counting.proofs.spread.Reads as spread
+use Rattle.counting.proofs.+block.Lts-block as block-lts
+use Rattle.counting.proofs.one.Reads as one-reads
+use Rattle.counting.proofs.some_lost.Reads as lost-reads
+use Rattle.counting.proofs.spread.Reads as spread-reads
 use Rattle.counting.proofs.+block.{statement}
 use Rattle.counting.proofs.+block.Tie.{close}
 
--- k falls
 abbrev μ-block : Measures 2 block-kinds.ps ℕ
 μ-block κs a = a.1.1.1.0
 
-module _ (t : ℕ) where
-  abbrev asked : In 2 block-kinds.ps
-  asked = and 2 block-kinds.ps (is 2 block-kinds.ps μ-block t) block.Pre
+abbrev block_at : ℕ → In 2 block-kinds.ps
+block_at t = and 2 block-kinds.ps (is 2 block-kinds.ps μ-block t) block.Pre
 
-  -- what the calls ask and tell
-  abbrev calls : lts.Claims
-  calls = (
-    count-position.Asked,
-    count-position.Learnt,
-    some-lost.Asked,
-    some-lost.Learnt,
-    spread.Asked,
-    spread.Learnt,
-    and 2 block-kinds.ps (falls 2 block-kinds.ps ◌<◌ μ-block t) block.Pre,
-    block.Post,
-  )
+abbrev block_below : ℕ → In 2 block-kinds.ps
+block_below t = and 2 block-kinds.ps (falls 2 block-kinds.ps ◌<◌ μ-block t) block.Pre
 
-  -- ---- places of the code, and what is known there
+-- what the calls ask and tell
+abbrev calls : (t : ℕ) → block-lts.Claims
+calls t = (
+  one-reads.Asked,
+  one-reads.Learnt,
+  lost-reads.Asked,
+  lost-reads.Learnt,
+  spread-reads.Asked,
+  spread-reads.Learnt,
+  block_below t,
+  block.Post,
+)
 
-  -- a block of two halves; once it is spread; once the left half has come back, and the right half
-  abbrev Two : Type 0
-  Two = lts.Else1 calls asked block.Post
+block_slice_read_one : (t : ℕ) → block-lts.Need-slice-read-one (calls t) (block_at t) block.Post
+block_slice_read_one t c = let e : length c.before.before.before.before.args.marks.now ≡ 1 = c.before.before.before.before.requires.1.0 ∙ ap (λ (x : ℕ). 2 ^ x) c.before.if1.true in omega arith
 
-  abbrev Halves : Type 0
-  Halves = lts.After-spread calls asked block.Post
+block_one_requires : (t : ℕ) → block-lts.Need-one-requires (calls t) (block_at t) block.Post
+block_one_requires t c κs = tt
 
-  abbrev LeftBack : Type 0
-  LeftBack = lts.After-block calls asked block.Post
+block-some-lost_requires : (t : ℕ) → block-lts.Need-some-lost-requires (calls t) (block_at t) block.Post
+block-some-lost_requires t c κs = tt
 
-  abbrev RightBack : Type 0
-  RightBack = lts.After-block2 calls asked block.Post
+block_spread_requires : (t : ℕ) → block-lts.Need-spread-requires (calls t) (block_at t) block.Post
+block_spread_requires t c κs =
+    let E = c.before.before.before.before in
+    let S = E.before.before.before in
+    let m₀ = S.args.marks.now in
+    let h = length m₀ / 2 in
+    let (a, b) = half_of S.args.k (length m₀) E.if1.false S.requires.1.0 in
+    a
 
-  -- and the way from each to the one before it
-  abbrev start : Two → lts.Start calls asked block.Post
-  start c = c.before.before.before
+block_slice_relend_prefix_block : (t : ℕ) → block-lts.Need-slice-relend-prefix-block (calls t) (block_at t) block.Post
+block_slice_relend_prefix_block t c = omega (arith, c.before.before.spread.auto.0)
 
-  abbrev two : Halves → Two
-  two c = c.before.before.before.before.before
+block_slice_aggregate_block : (t : ℕ) → block-lts.Need-slice-aggregate-block (calls t) (block_at t) block.Post
+block_slice_aggregate_block t c =
+    let k = c.before.before.before.spread.auto.0 in
+    simp length-take (omega arith)
 
-  abbrev halves : LeftBack → Halves
-  halves c = c.before.before.before.before
+block-sub-block : (t : ℕ) → block-lts.Need-overflow-sub-block (calls t) (block_at t) block.Post
+block-sub-block t c = omega (arith, c.before.before.before.before.before.before.before.before.if1.false)
 
-  abbrev left_back : RightBack → LeftBack
-  left_back c = c.before.before.before.before
+block-block_requires : (t : ℕ) → block-lts.Need-block-requires (calls t) (block_at t) block.Post
+unfolding mask_bytes
+block-block_requires t c κs =
+    let p = c.before.before.before in
+    let E = p.before.before.before.before.before in
+    let S = E.before.before.before in
+    let m₀ = S.args.marks.now in
+    let h = length m₀ / 2 in
+    let (a, b) = half_of S.args.k (length m₀) E.if1.false S.requires.1.0 in
+    let P = p.spread in
+    let m₁ = P.new.0 in
+    let lm₁ : length m₁ ≡ h + h = P.auto.0 ∙ a in
+    let lL : length (take h m₁) ≡ h = length-take-le h m₁ (omega arith) in
+    let near = S.requires.1.1 in
+    (omega (arith, E.if1.false, S.requires.0), (lL ∙ b, omega arith))
 
-  abbrev marks : Two → List ℕ
-  marks c = (start c).args.marks.now
+block-sub-block_2 : (t : ℕ) → block-lts.Need-overflow-sub-block-2 (calls t) (block_at t) block.Post
+block-sub-block_2 t c =
+    let d = c.before.before in
+    let p = d.before.before.before.before in
+    omega (arith, p.spread.auto.0, c.before.marks2.given.1)
 
-  -- how many slots a half has, and the slots of both
-  abbrev half : Halves → ℕ
-  half c = length (marks (two c)) / 2
+block-part-block-start : (t : ℕ) → block-lts.Need-slice-bounds-block-start (calls t) (block_at t) block.Post
+block-part-block-start t c =
+    let d = c.before.before in
+    let p = d.before.before.before.before in
+    omega (arith, p.spread.auto.0, c.before.marks2.given.1)
 
-  abbrev both : Halves → List ℕ
-  both c = c.spread.new.0
+block-part-block_end : (t : ℕ) → block-lts.Need-slice-bounds-block-end (calls t) (block_at t) block.Post
+block-part-block_end t c = omega arith
 
-  halved : (c : Two) → (length (marks c) ≡ length (marks c) / 2 + length (marks c) / 2) × (length (marks c) / 2 ≡ 2 ^ ((start c).args.k - 1))
-  halved c = half_of (start c).args.k (length (marks c)) c.if1.false (start c).requires.1.0
+block_add_block : (t : ℕ) → block-lts.Need-overflow-add-block (calls t) (block_at t) block.Post
+unfolding mask_bytes
+block_add_block t c = omega (arith, c.before.before.before.before.before.before.before.before.before.before.before.before.before.before.before.requires.1.1)
 
-  both_long : (c : Halves) → length (both c) ≡ half c + half c
-  both_long c = c.spread.auto.0 ∙ (halved (two c)).0
+block-sub-block_3 : (t : ℕ) → block-lts.Need-overflow-sub-block-3 (calls t) (block_at t) block.Post
+block-sub-block_3 t c = omega (arith, c.before.before.before.before.before.before.before.before.before.before.before.before.if1.false)
 
-  left-long : (c : Halves) → length (take (half c) (both c)) ≡ half c
-  left-long c = length-take-le (half c) (both c) (omega (arith, both_long c))
+block-block_requires_2 : (t : ℕ) → block-lts.Need-block-requires-2 (calls t) (block_at t) block.Post
+unfolding mask_bytes
+block-block_requires_2 t c κs =
+    let d = c.before.before.before in
+    let p = d.before.before.before.before in
+    let E = p.before.before.before.before.before in
+    let S = E.before.before.before in
+    let m₀ = S.args.marks.now in
+    let h = length m₀ / 2 in
+    let (a, b) = half_of S.args.k (length m₀) E.if1.false S.requires.1.0 in
+    let P = p.spread in
+    let m₁ = P.new.0 in
+    let lm₁ : length m₁ ≡ h + h = P.auto.0 ∙ a in
+    let D = d.block in
+    let mL = D.new.0 in
+    let lL : length (take h m₁) ≡ h = length-take-le h m₁ (omega arith) in
+    let lmL : length mL ≡ h = D.auto.0 ∙ lL in
+    let f = from_back m₁ mL h lmL in
+    let lR : length (drop h m₁) ≡ h = length-drop h m₁ ∙ omega arith in
+    let lB = ap length f ∙ lR in
+    let near = S.requires.1.1 in
+    (omega (arith, E.if1.false, S.requires.0), (lB ∙ b, omega arith))
 
-  right-long : (c : Halves) → length (drop (half c) (both c)) ≡ half c
-  right-long c = length-drop (half c) (both c) ∙ omega (arith, both_long c)
+block_add_result : (t : ℕ) → block-lts.Need-overflow-add-result (calls t) (block_at t) block.Post
+block_add_result t c =
+    let r = c.before.before in
+    let R = r.block2 in
+    let d = r.before.before.before.before in
+    let p = d.before.before.before.before in
+    let E = p.before.before.before.before.before in
+    let S = E.before.before.before in
+    let m₀ = S.args.marks.now in
+    let h = length m₀ / 2 in
+    let (a, b) = half_of S.args.k (length m₀) E.if1.false S.requires.1.0 in
+    let P = p.spread in
+    let m₁ = P.new.0 in
+    let lm₁ : length m₁ ≡ h + h = P.auto.0 ∙ a in
+    let D = d.block in
+    let mL = D.new.0 in
+    let lL : length (take h m₁) ≡ h = length-take-le h m₁ (omega arith) in
+    let lmL : length mL ≡ h = D.auto.0 ∙ lL in
+    let f = from_back m₁ mL h lmL in
+    let lR : length (drop h m₁) ≡ h = length-drop h m₁ ∙ omega arith in
+    let A = S.args in
+    let x = counts-most A.sheet.now A.at (A.k - 1) (take h m₁) (lL ∙ b) in
+    let y = counts-most A.sheet.now (A.at + h) (A.k - 1) (drop h m₁) (lR ∙ b) in
+    let z = R.ensures ∙ ap (open_frees A.sheet.now (A.at + h) (A.k - 1)) f in
+    omega (arith, D.ensures, S.well-formed)
 
-  -- what is lent of the right half, once the left half has come back
-  abbrev lent : LeftBack → List ℕ
-  lent c =
-      let h = half (halves c) in
-      let m = c.block.new.0 ++ drop h (both (halves c)) in
-      take (length m - h) (drop h m)
+block-returns : (t : ℕ) → block-lts.Need-returns (calls t) (block_at t) block.Post
+block-returns t c =
+    let S = c.before.before.before.before.before in
+    let A = S.args in
+    c.one.ensures ∙ counts_one A.sheet.now A.at A.k A.marks.now c.before.before.if1.true (S.requires.1.0 ∙ ap (λ (x : ℕ). 2 ^ x) c.before.before.if1.true)
 
-  lent_is : (c : LeftBack) → lent c ≡ drop (half (halves c)) (both (halves c))
-  lent_is c = from_back (both (halves c)) c.block.new.0 (half (halves c)) (c.block.auto.0 ∙ left-long (halves c))
+block-same-length : (t : ℕ) → block-lts.Need-same-length (calls t) (block_at t) block.Post
+block-same-length t c = search rules
 
-  -- ---- a position
+block-returns_2 : (t : ℕ) → block-lts.Need-returns-2 (calls t) (block_at t) block.Post
+block-returns_2 t c =
+    let S = c.before.before.before.before.before.before in
+    let A = S.args in
+    counts-none A.sheet.now A.at A.k A.marks.now S.requires.1.0 (sym c.before.some-lost.ensures ∙ not-true _ c.if2.true)
 
-  slice-read-count-position : lts.Need-slice-read-count-position calls asked block.Post
-  slice-read-count-position c =
-      let S = c.before.before.before.before in
-      let e : length S.args.marks.now ≡ 1 = S.requires.1.0 ∙ ap (λ (x : ℕ). 2 ^ x) c.before.if1.true in
-      omega arith
+block-same-length_2 : (t : ℕ) → block-lts.Need-same-length-2 (calls t) (block_at t) block.Post
+block-same-length_2 t c = search rules
 
-  count-position-requires : lts.Need-count-position-requires calls asked block.Post
-  count-position-requires c κs = tt
-
-  returns : lts.Need-returns calls asked block.Post
-  returns c =
-      let z = c.before.before.if1.true in
-      let S = c.before.before.before.before.before in
-      let A = S.args in
-      c.count-position.ensures ∙ counts-one A.sheet.now A.at A.k A.marks.now z (S.requires.1.0 ∙ ap (λ (x : ℕ). 2 ^ x) z)
-
-  -- ---- nothing erased
-
-  some-lost-requires : lts.Need-some-lost-requires calls asked block.Post
-  some-lost-requires c κs = tt
-
-  same_length : lts.Need-same-length calls asked block.Post
-  same_length c = search rules
-
-  returns-2 : lts.Need-returns-2 calls asked block.Post
-  returns-2 c =
-      let S = c.before.before.before.before.before.before in
-      let A = S.args in
-      counts-none A.sheet.now A.at A.k A.marks.now S.requires.1.0 (sym c.before.some-lost.ensures ∙ not-true _ c.if2.true)
-
-  -- ---- the left half
-
-  spread-requires : lts.Need-spread-requires calls asked block.Post
-  spread-requires c κs = (halved c.before.before.before.before).0
-
-  slice-relend-prefix-block : lts.Need-slice-relend-prefix-block calls asked block.Post
-  slice-relend-prefix-block c = omega (arith, c.before.before.spread.auto.0)
-
-  slice-aggregate-block : lts.Need-slice-aggregate-block calls asked block.Post
-  slice-aggregate-block c =
-      let k = c.before.before.before.spread.auto.0 in
-      simp length-take (omega arith)
-
-  sub-block : lts.Need-overflow-sub-block calls asked block.Post
-  sub-block c = omega (arith, c.before.before.before.before.before.before.before.before.if1.false)
-
-  block-requires : lts.Need-block-requires calls asked block.Post
-  unfolding mask_bytes
-  block-requires c κs =
-      let H = c.before.before.before in
-      let E = two H in
-      let l = left-long H in
-      let near = (start E).pre.1.1 in
-      (omega (arith, E.if1.left, (start E).pre.0), (l ∙ (halved E).1, omega (arith, (halved E).0)))
-
-  -- ---- the right half
-
-  sub-block-2 : lts.Need-overflow-sub-block-2 calls asked block.Post
-  sub-block-2 c = omega (arith, (halves c.before.before).spread.kept.0, c.before.marks2.given.1)
-
-  part-block-start : lts.Need-slice-bounds-block-start calls asked block.Post
-  part-block-start c = omega (arith, (halves c.before.before).spread.kept.0, c.before.marks2.given.1)
-
-  part-block-end : lts.Need-slice-bounds-block-end calls asked block.Post
-  part-block-end c = omega arith
-
-  add-block : lts.Need-overflow-add-block calls asked block.Post
-  unfolding mask_bytes
-  add-block c = omega (arith, (start (two (halves c.before.before.before))).pre.1.1)
-
-  sub-block-3 : lts.Need-overflow-sub-block-3 calls asked block.Post
-  sub-block-3 c = omega (arith, (two (halves c.before.before.before)).if1.left)
-
-  block-requires-2 : lts.Need-block-requires-2 calls asked block.Post
-  unfolding mask_bytes
-  block-requires-2 c κs =
-      let D = c.before.before.before in
-      let E = two (halves D) in
-      let l = ap length (lent_is D) ∙ right-long (halves D) in
-      let near = (start E).pre.1.1 in
-      (omega (arith, E.if1.left, (start E).pre.0), (l ∙ (halved E).1, omega (arith, (halved E).0)))
-
-  -- ---- both
-
-  -- what the right half has
-  right-count : (c : RightBack) → let H = halves (left_back c) in let A = (start (two H)).args in
-      c.block2.result ≡ open_frees A.sheet.now (A.at + half H) (A.k - 1) (drop (half H) (both H))
-  right-count c =
-      let H = halves (left_back c) in
-      let A = (start (two H)).args in
-      c.block2.ensures ∙ ap (open_frees A.sheet.now (A.at + half H) (A.k - 1)) (lent_is (left_back c))
-
-  add-result : lts.Need-overflow-add-result calls asked block.Post
-  add-result c =
-      let R = c.before.before in
-      let D = left_back R in
-      let H = halves D in
-      let S = start (two H) in
-      let s = S.args.sheet.now in
-      let k = S.args.k - 1 in
-      let x = counts-most s S.args.at k (take (half H) (both H)) (left-long H ∙ (halved (two H)).1) in
-      let y = counts-most s (S.args.at + half H) k (drop (half H) (both H)) (right-long H ∙ (halved (two H)).1) in
-      omega (arith, D.block.ensures, right-count R, left-long H, right-long H, (halved (two H)).0, S.good)
-
-  same-length-2 : lts.Need-same-length-2 calls asked block.Post
-  same-length-2 c = search rules
-
-  returns-3 : lts.Need-returns-3 calls asked block.Post
-  returns-3 c =
-      let R = c.before.before in
-      let D = left_back R in
-      let H = halves D in
-      let E = two H in
-      let A = (start E).args in
-      let up : A.k ≡ suc (A.k - 1) = omega (arith, E.if1.left) in
-      ap₂ ◌+◌ D.block.ensures (right-count R)
-      ∙ sym (counts_halves A.sheet.now A.at (A.k - 1) (half H) (marks E) (both H) (halved E).1 (halved E).0 (both_long H) H.spread.ensures)
-      ∙ ap (λ (x : ℕ). open_frees A.sheet.now A.at x (marks E)) (sym up)
+block-returns_3 : (t : ℕ) → block-lts.Need-returns-3 (calls t) (block_at t) block.Post
+block-returns_3 t c =
+    let r = c.before.before in
+    let R = r.block2 in
+    let d = r.before.before.before.before in
+    let p = d.before.before.before.before in
+    let E = p.before.before.before.before.before in
+    let S = E.before.before.before in
+    let m₀ = S.args.marks.now in
+    let h = length m₀ / 2 in
+    let (a, b) = half_of S.args.k (length m₀) E.if1.false S.requires.1.0 in
+    let P = p.spread in
+    let m₁ = P.new.0 in
+    let lm₁ : length m₁ ≡ h + h = P.auto.0 ∙ a in
+    let D = d.block in
+    let mL = D.new.0 in
+    let lL : length (take h m₁) ≡ h = length-take-le h m₁ (omega arith) in
+    let lmL : length mL ≡ h = D.auto.0 ∙ lL in
+    let f = from_back m₁ mL h lmL in
+    let lR : length (drop h m₁) ≡ h = length-drop h m₁ ∙ omega arith in
+    let A = S.args in
+    let z = R.ensures ∙ ap (open_frees A.sheet.now (A.at + h) (A.k - 1)) f in
+    let up : A.k ≡ suc (A.k - 1) = omega (arith, E.if1.false) in
+    ap₂ ◌+◌ D.ensures z ∙ sym (counts_halves A.sheet.now A.at (A.k - 1) h m₀ m₁ b a lm₁ P.ensures)
+    ∙ ap (λ (x : ℕ). open_frees A.sheet.now A.at x m₀) (sym up)
 
 pub +block-spec : {M : Type 1} → statement M
-+block-spec = close μ-block λ t. lts.spec (calls t)
-    (asked t)
++block-spec = close μ-block λ t. block-lts.spec (calls t)
+    (block_at t)
     block.Post
-    (slice-read-count-position t)
-    (count-position-requires t)
-    (some-lost-requires t)
-    (spread-requires t)
-    (slice-relend-prefix-block t)
-    (slice-aggregate-block t)
-    (sub-block t)
-    (block-requires t)
-    (sub-block-2 t)
-    (part-block-start t)
-    (part-block-end t)
-    (add-block t)
-    (sub-block-3 t)
-    (block-requires-2 t)
-    (add-result t)
-    (returns t)
-    (same_length t)
-    (returns-2 t)
-    (same-length-2 t)
-    (returns-3 t)
+    (block_slice_read_one t)
+    (block_one_requires t)
+    (block-some-lost_requires t)
+    (block_spread_requires t)
+    (block_slice_relend_prefix_block t)
+    (block_slice_aggregate_block t)
+    (block-sub-block t)
+    (block-block_requires t)
+    (block-sub-block_2 t)
+    (block-part-block-start t)
+    (block-part-block_end t)
+    (block_add_block t)
+    (block-sub-block_3 t)
+    (block-block_requires_2 t)
+    (block_add_result t)
+    (block-returns t)
+    (block-same-length t)
+    (block-returns_2 t)
+    (block-same-length_2 t)
+    (block-returns_3 t)

@@ -19,11 +19,8 @@ same_length c = c.before.before.block.auto.0 ∙ c.before.before.before.before.b
 
 returns : tie.Need-returns
 returns c =
-    let L = c.before.before.before.before.before.before in
-    let S = L.before.before.before.before.before in
-    let A = S.args in
-    c.before.before.block.ensures ∙ ap (open_frees A.sheet.now 0 A.n) L.load.ensures
-    ∙ counts_word A.sheet.now A.word.now A.n S.requires.1
+    let A = c.before.before.before.before.before.before.before.before.before.before.before.args in
+    c.before.before.block.ensures ∙ ap (open_frees A.sheet.now 0 A.n) c.before.before.before.before.before.before.load.ensures ∙ counts_word A.sheet.now A.word.now A.n c.before.before.before.before.before.before.before.before.before.before.before.requires.1
 
 pub count_spec : {M : Type 1} → statement M
 count_spec = tie.close (tie.spec load-requires block-requires same_length returns)

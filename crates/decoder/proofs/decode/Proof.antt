@@ -1,6 +1,6 @@
 use borrow.Author.Tests.{not-true, not-false}
 use borrow.Author.Rules.{rules}
-use Rattle.decoder.proofs.Deciding.{decode_refused, decode-formed, decode_decides}
+use Rattle.decoder.proofs.Deciding.{decode_refused, decode_passed, decode_decided}
 use Rattle.decoder.proofs.decode.Statement.{statement}
 use Rattle.decoder.proofs.decode.Tie as tie
 
@@ -10,16 +10,13 @@ returns c = decode_refused _ _ _ _ _ _ _ c.before.before.fault.ensures _ c.befor
 decide-requires : tie.Need-decide-requires
 decide-requires c κs =
     let test = c.before in
-    let A = c.before.before.before.before.before.before.before.args in
-    decode-formed A.n A.sheet.now A.r A.ceiling A.word.now A.out.now _ test.before.before.fault.ensures _
-    test.before.is-done.ensures (not-false _ test.if1.false)
+    decode_passed _ _ _ _ _ _ _ test.before.before.fault.ensures _ test.before.is-done.ensures (not-false _ test.if1.false)
 
 returns-2 : tie.Need-returns-2
 returns-2 c =
     let done = c.before.before in
     let test = done.before.before in
-    decode_decides _ _ _ _ _ _ _ test.before.before.fault.ensures _ test.before.is-done.ensures (not-false _ test.if1.false) _
-    done.decide.ensures
+    decode_decided _ _ _ _ _ _ _ test.before.before.fault.ensures _ test.before.is-done.ensures (not-false _ test.if1.false) _ done.decide.ensures
 
 pub decode-spec : {M : Type 1} → statement M
 decode-spec = tie.close (tie.spec (λ c κs. search rules) (λ c κs. search rules) returns decide-requires (λ c. search rules) returns-2)

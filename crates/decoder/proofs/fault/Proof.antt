@@ -1,8 +1,4 @@
 use mathlib.Core.Path.{refl}
-use native.Mathlib.Omega.{arith}
-use native.Mathlib.Nat.{mul-le-mul_right}
-use Prim.Native.Nat.{◌*◌, ◌/◌, ◌≤◌}
-use lib.ListN.{length}
 use borrow.Author.Tests.{not-true, not-false}
 use borrow.Author.Rules.{rules}
 use Rattle.meaning.specs.Limits.{record_bytes, mask_bytes, largest_ceiling}
@@ -10,30 +6,21 @@ use Rattle.decoder.proofs.Deciding.{fault_call, fault_ceiling, fault_none}
 use Rattle.decoder.proofs.fault.Statement.{statement}
 use Rattle.decoder.proofs.fault.Tie as tie
 
-mul-check-call : tie.Need-overflow-mul-check-call
-mul-check-call c =
-    let A = c.before.before.args in
-    let h : A.times * (length A.sheet.now / 68) ≤ 3 * (length A.sheet.now / 68) =
-    mul-le-mul_right (length A.sheet.now / 68) c.before.before.requires in
-    omega arith
-
 returns : tie.Need-returns
 unfolding record_bytes mask_bytes
-returns c = fault_call _ _ _ _ _ _ _ _ refl _ c.before.before.check-call.ensures _ c.before.is-done.ensures (not-true _ c.if1.true)
+returns c = fault_call _ _ _ _ _ _ _ refl _ c.before.before.check-call.ensures _ c.before.is-done.ensures (not-true _ c.if1.true)
 
 returns-2 : tie.Need-returns-2
 unfolding record_bytes mask_bytes largest_ceiling
 returns-2 c =
     let left = c.before in
-    fault_ceiling _ _ _ _ _ _ _ _ refl _ left.before.before.check-call.ensures
-    _ left.before.is-done.ensures (not-false _ left.if1.false) c.if2.true
+    fault_ceiling _ _ _ _ _ _ _ refl _ left.before.before.check-call.ensures _ left.before.is-done.ensures (not-false _ left.if1.false) c.if2.true
 
 returns-3 : tie.Need-returns-3
 unfolding record_bytes mask_bytes largest_ceiling
 returns-3 c =
     let left = c.before in
-    fault_none _ _ _ _ _ _ _ _ refl _ left.before.before.check-call.ensures
-    _ left.before.is-done.ensures (not-false _ left.if1.false) c.if2.false
+    fault_none _ _ _ _ _ _ _ refl _ left.before.before.check-call.ensures _ left.before.is-done.ensures (not-false _ left.if1.false) c.if2.false
 
 pub fault-spec : {M : Type 1} → statement M
-fault-spec = tie.close (tie.spec mul-check-call (λ c κs. tt) (λ c κs. tt) returns returns-2 returns-3)
+fault-spec = tie.close (tie.spec (λ c. search rules) (λ c κs. search rules) (λ c κs. search rules) returns returns-2 returns-3)

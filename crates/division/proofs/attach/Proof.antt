@@ -9,12 +9,7 @@ spell-requires : tie.Need-spell-requires
 spell-requires c κs =
     let copy = c.before.before.before.before.before in
     let start = copy.before.before.before.before in
-    omega (
-      arith,
-      tail_length start.args.bits.now start.args.out.now copy.copy.new.1.0
-          start.args.r copy.copy.ensures.1 start.requires.1,
-      length-small _ start.requires.0,
-    )
+    omega (arith, tail_length start.args.bits.now start.args.out.now copy.copy.new.1.0 start.args.r copy.copy.ensures.1 start.requires.1, length-small _ start.requires.0)
 
 returns : tie.Need-returns
 returns c =

@@ -47,17 +47,7 @@ one-requires : tie.Need-one-requires invariant-loop decreases-loop
 one-requires c κs = tt
 
 add-t : tie.Need-overflow-add-t invariant-loop decreases-loop
-add-t c =
-    let start = c.before.before.before.before.before.before in
-    record {
-      fits = omega (
-        arith,
-        c.one.ensures,
-        bit-small (isOne (get_or start.args.bits.now c.before.before.before.loop.i 0)),
-        length-small _ start.requires,
-        c.before.before.before.loop.invariant.3.small,
-      );
-    }
+add-t c = record { fits = omega (arith, c.one.ensures, bit-small (isOne (get_or c.before.before.before.before.before.before.args.bits.now c.before.before.before.loop.i 0)), length-small _ c.before.before.before.before.before.before.requires, c.before.before.before.loop.invariant.3.small) }
 
 add-i : tie.Need-overflow-add-i invariant-loop decreases-loop
 add-i c = search rules
@@ -72,20 +62,8 @@ loop-again c =
     let inv = turn.before.loop.invariant in
     let d = divisor _ turn.before.before.before.before.requires in
     ⊎_elim
-    (λ w. (
-      omega arith,
-      inv.1,
-      inv.2,
-      rw (w.1, inv.1)
-          (feed_over _ _ turn.loop-test.true _ _ _ call.one.ensures d inv.3 (rw inv.2 at w.0.taken)),
-    ))
-    (λ w. (
-      omega arith,
-      inv.1,
-      inv.2,
-      rw w.1
-          (feed_under _ _ turn.loop-test.true _ _ _ call.one.ensures d inv.3 (rw inv.2 at w.0.left)),
-    ))
+    (λ w. (omega arith, inv.1, inv.2, rw (w.1, inv.1) (feed_over _ _ turn.loop-test.true _ _ _ call.one.ensures d inv.3 (rw inv.2 at w.0.taken))))
+    (λ w. (omega arith, inv.1, inv.2, rw w.1 (feed_under _ _ turn.loop-test.true _ _ _ call.one.ensures d inv.3 (rw inv.2 at w.0.left))))
     c.if1.branch
 
 returns : tie.Need-returns invariant-loop decreases-loop

@@ -47,16 +47,12 @@ loop-again c =
     let r = start.args.r in
     let d = divisor r start.requires.0 in
     ⊎_elim
-    (λ w. let (low, f) = flush_over r start.args.start turn.before.loop.i _ d inv.3 inv.4 (rw inv.2 at w.0.taken) in
-    (omega arith, inv.1, inv.2, rw (w.1, inv.1) low, rw (w.1, inv.1) f))
-    (λ w. let k = rw inv.2 at w.0.left in
-    (omega arith, inv.1, inv.2, rw w.1 k, rw w.1 (flush_under r start.args.start turn.before.loop.i _ d inv.3 inv.4 k)))
+    (λ w. let (low, f) = flush_over r start.args.start turn.before.loop.i _ d inv.3 inv.4 (rw inv.2 at w.0.taken) in (omega arith, inv.1, inv.2, rw (w.1, inv.1) low, rw (w.1, inv.1) f))
+    (λ w. let k = rw inv.2 at w.0.left in (omega arith, inv.1, inv.2, rw w.1 k, rw w.1 (flush_under r start.args.start turn.before.loop.i _ d inv.3 inv.4 k)))
     c.if1.branch
 
 returns : tie.Need-returns invariant-loop decreases-loop
-returns c =
-    let e : c.before.loop.i ≡ c.before.before.before.args.r = omega arith in
-    subst (λ (i : ℕ). Flushed c.before.before.before.args.r c.before.before.before.args.start i c.before.loop.s) e c.before.loop.invariant.4
+returns c = let e : c.before.loop.i ≡ c.before.before.before.args.r = omega arith in subst (λ (i : ℕ). Flushed c.before.before.before.args.r c.before.before.before.args.start i c.before.loop.s) e c.before.loop.invariant.4
 
 pub flush-spec : {M : Type 1} → statement M
 flush-spec =

@@ -33,9 +33,7 @@ shr-out : tie.Need-overflow-shr-out invariant-loop decreases-loop
 shr-out c = omega arith
 
 cast-out : tie.Need-overflow-cast-out invariant-loop decreases-loop
-cast-out c =
-    let A = c.before.before.args in
-    record { fits = omega (arith, mod-lt (A.s / 2 ^ (length A.out.now - 1 - c.before.loop.i)) {m = 2} (omega arith)) }
+cast-out c = record { fits = omega (arith, mod-lt (c.before.before.args.s / 2 ^ (length c.before.before.args.out.now - 1 - c.before.loop.i)) {m = 2} (omega arith)) }
 
 slice-write-out : tie.Need-slice-write-out invariant-loop decreases-loop
 slice-write-out c = search rules

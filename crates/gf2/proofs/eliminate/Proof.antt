@@ -22,24 +22,17 @@ returns-2 c =
 returns-3 : tie.Need-returns-3
 returns-3 c =
     let A = c.before.before.before.before.before.args in
-    misfit A.c A.w A.eqs.now A.rest.now
-    (odd-eqs A.c A.w A.eqs.now A.rest.now c.before.before.if1.false c.before.if2.false c.if3.true)
+    misfit A.c A.w A.eqs.now A.rest.now (odd-eqs A.c A.w A.eqs.now A.rest.now c.before.before.if1.false c.before.if2.false c.if3.true)
 
 returns-4 : tie.Need-returns-4
 returns-4 c =
     let A = c.before.before.before.before.before.before.args in
-    misfit A.c A.w A.eqs.now A.rest.now
-    (odd-rest A.c A.w A.eqs.now A.rest.now c.before.before.before.if1.false
-    c.before.before.if2.false c.before.if3.false c.if4.true)
+    misfit A.c A.w A.eqs.now A.rest.now (odd-rest A.c A.w A.eqs.now A.rest.now c.before.before.before.if1.false c.before.before.if2.false c.before.if3.false c.if4.true)
 
 run-requires : tie.Need-run-requires
 run-requires c κs =
-    let A = c.before.before.before.before.before.before.before.before.args in (
-      whole-rows (length A.eqs.now) A.w c.before.before.before.if3.false,
-      whole-rows (length A.rest.now) A.w c.before.before.if4.false,
-      omega arith,
-      omega (arith, c.before.before.before.before.before.if1.false),
-    )
+    let A = c.before.before.before.before.before.before.before.before.args in
+    (whole-rows (length A.eqs.now) A.w c.before.before.before.if3.false, whole-rows (length A.rest.now) A.w c.before.before.if4.false, omega arith, omega (arith, c.before.before.before.before.before.if1.false))
 
 returns-5 : tie.Need-returns-5
 returns-5 c =
@@ -52,8 +45,7 @@ returns-5 c =
     let R = call.run in
     fit_done A.c A.w A.eqs.now A.rest.now R.new.0 R.new.1.1.0 R.result
     (all_fit A.c A.w A.eqs.now A.rest.now test1.if1.false test2.if2.false test3.if3.false test4.if4.false)
-    (R.auto.0 ∙ whole-rows (length A.eqs.now) A.w test3.if3.false)
-    (R.auto.1.1.0 ∙ whole-rows (length A.rest.now) A.w test4.if4.false)
+    (R.auto.0 ∙ whole-rows (length A.eqs.now) A.w test3.if3.false) (R.auto.1.1.0 ∙ whole-rows (length A.rest.now) A.w test4.if4.false)
     R.ensures
 
 pub eliminate-spec : {M : Type 1} → statement M

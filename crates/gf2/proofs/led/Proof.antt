@@ -35,11 +35,7 @@ loop-less : tie.Need-loop-smaller invariant-loop decreases-loop
 loop-less c = search rules
 
 loop-again : tie.Need-loop-preserved invariant-loop decreases-loop
-loop-again c =
-    let start = c.before.before.before.before.before in (
-      omega (arith, c.before.before.before.loop-test.true),
-      none_more start.args.x.now c.before.before.before.before.loop.k c.before.before.before.before.loop.invariant.1 c.if2.false,
-    )
+loop-again c = (omega (arith, c.before.before.before.loop-test.true), none_more c.before.before.before.before.before.args.x.now c.before.before.before.before.loop.k c.before.before.before.before.loop.invariant.1 c.if2.false)
 
 returns-3 : tie.Need-returns-3 invariant-loop decreases-loop
 returns-3 c = led-none _ _ (λ t h. c.before.loop.invariant.1 t (omega (arith, c.loop-test.false)))

@@ -46,8 +46,7 @@ loop-less c =
     let at_read = c.before.before.before.before.before in
     let in-loop = at_read.before.before.before in
     let at-loop = in-loop.before in
-    read_less (length at-loop.loop.buf) at-loop.loop.n c.count.result at_read.read_behind.new.1.1.0
-    (to_z w64 at-loop.loop.last) (to_z w64 (of_z w64 at_read.read_behind.result))
+    read_less (length at-loop.loop.buf) at-loop.loop.n c.count.result at_read.read_behind.new.1.1.0 (to_z w64 at-loop.loop.last) (to_z w64 (of_z w64 at_read.read_behind.result))
     in-loop.loop-test.true (omega (arith, ltb-true)) at_read.read_behind.auto.1.1.0 c.count.ensures.1
 
 same_length : tie.Need-same-length invariant-loop decreases-loop

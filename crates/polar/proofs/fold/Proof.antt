@@ -42,9 +42,7 @@ same_length : tie.Need-same-length invariant-loop decreases-loop
 same_length c = search rules
 
 returns : tie.Need-returns invariant-loop decreases-loop
-returns c =
-    fold_end c.before.before.args.s.now c.before.before.args.h c.before.before.requires
-    c.before.loop.s c.before.loop.i (omega arith) c.before.loop.invariant
+returns c = fold_end c.before.before.args.s.now c.before.before.args.h c.before.before.requires c.before.loop.s c.before.loop.i (omega arith) c.before.loop.invariant
 
 pub fold-spec : {M : Type 1} → statement M
 fold-spec =

@@ -9,9 +9,7 @@ steps-requires : tie.Need-steps-requires
 steps-requires c κs = eqb-true _ _ (sym c.before.before.sized.ensures ∙ c.before.if1.true)
 
 returns : tie.Need-returns
-returns c =
-    c.before.before.steps.ensures
-    ∙ sym (transformed-is _ _ (eqb-true _ _ (sym c.before.before.before.before.before.sized.ensures ∙ c.before.before.before.before.if1.true)))
+returns c = c.before.before.steps.ensures ∙ sym (transformed-is _ _ (eqb-true _ _ (sym c.before.before.before.before.before.sized.ensures ∙ c.before.before.before.before.if1.true)))
 
 returns-2 : tie.Need-returns-2
 returns-2 c = sym (transformed-not _ _ (sym c.before.sized.ensures ∙ c.if1.false))

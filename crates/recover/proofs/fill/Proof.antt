@@ -14,12 +14,10 @@ use Rattle.recover.proofs.fill.Tie as tie
 -- as many as the words have
 counted : (c : tie.After-slice-known2)
     → let start = c.before.before.before.before.before.before.before.before.before.before.before in
-    c.before.before.before.before.before.records.result
-    ≡ length (records start.args.sheet.now start.args.choice.now (take start.args.got start.args.input.now))
+    c.before.before.before.before.before.records.result ≡ length (records start.args.sheet.now start.args.choice.now (take start.args.got start.args.input.now))
 counted c =
     let start = c.before.before.before.before.before.before.before.before.before.before.before in
-    c.before.before.before.before.before.records.ensures
-    ∙ ap (λ (w : List ℕ). length (records start.args.sheet.now start.args.choice.now w)) (front start.args.got start.args.input.now)
+    c.before.before.before.before.before.records.ensures ∙ ap (λ (w : List ℕ). length (records start.args.sheet.now start.args.choice.now w)) (front start.args.got start.args.input.now)
 
 mul-result : tie.Need-overflow-mul-result
 unfolding answer_bytes head_bytes strip_width

@@ -8,11 +8,8 @@ use Rattle.recover.proofs.turn.Tie as tie
 answer-requires : tie.Need-answer-requires
 answer-requires c κs =
     let at_read = c.before.before.before.before in
-    let start = at_read.before.before.before.before.before.before in (
-      at_read.read.ensures.0,
-      run_room start.args.sheet.now start.args.choice.now
-          _ _ start.requires _ (simp length-take (omega (arith, at_read.read.ensures.0, at_read.read.auto))),
-    )
+    let start = at_read.before.before.before.before.before.before in
+    (at_read.read.ensures.0, run_room start.args.sheet.now start.args.choice.now _ _ start.requires _ (simp length-take (omega (arith, at_read.read.ensures.0, at_read.read.auto))))
 
 pub turn_spec : {M : Type 1} → statement M
 turn_spec =

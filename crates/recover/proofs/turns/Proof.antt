@@ -3,7 +3,7 @@ use Prim.Native.Nat.{◌≤◌, ◌-◌}
 use mathlib.Core.Bool.{false, true≢false}
 use lib.ListN.{length}
 use Rattle.intake.specs.Turns.{most_turns}
-use Rattle.recover.proofs.Runs.{run-fits-same}
+use Rattle.recover.proofs.Runs.{ready_same}
 use borrow.Author.Rules.{rules}
 use borrow.Author.Tests.{ltb-true, ltb-false}
 use native.Mathlib.Omega.{arith}
@@ -11,8 +11,7 @@ use Rattle.recover.proofs.turns.Statement.{statement}
 use Rattle.recover.proofs.turns.Tie as tie
 
 abbrev invariant-loop : tie.invariant-loop
-invariant-loop sheet choice input₀ out₀ made₀ more₀ input out made more =
-    (length input ≡ length input₀) × (length out ≡ length out₀) × (made ≤ most_turns) × (more ≡ false → 1 ≤ made)
+invariant-loop sheet choice input₀ out₀ made₀ more₀ input out made more = (length input ≡ length input₀) × (length out ≡ length out₀) × (made ≤ most_turns) × (more ≡ false → 1 ≤ made)
 
 abbrev decreases-loop : tie.decreases-loop
 decreases-loop sheet choice input₀ out₀ made₀ more₀ input out made more = most_turns - made
@@ -25,7 +24,7 @@ turn-requires : tie.Need-turn-requires invariant-loop decreases-loop
 turn-requires c κs =
     let at-loop = c.before.before.before.before in
     let start = at-loop.before.before.before.before.before in
-    run-fits-same _ _ _ _ _ _ at-loop.loop.invariant.0 at-loop.loop.invariant.1 start.requires
+    ready_same _ _ _ _ _ _ at-loop.loop.invariant.0 at-loop.loop.invariant.1 start.requires
 
 add-made : tie.Need-overflow-add-made invariant-loop decreases-loop
 unfolding most_turns

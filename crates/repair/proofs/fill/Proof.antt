@@ -29,15 +29,11 @@ module _ (c : tie.After-part) where
   abbrev strips : List ℕ
   strips = take start.args.got start.args.input.now
 
-  parted : at-parts.parts.result * c.part.result
-      ≡ part_count start.args.sheet.now start.args.choice.now strips * part_bytes (n_of start.args.sheet.now)
-  parted =
-      ap₂ ◌*◌ (at-parts.parts.ensures ∙ ap (part_count start.args.sheet.now start.args.choice.now)
-      (front start.args.got start.args.input.now)) c.part.ensures
+  parted : at-parts.parts.result * c.part.result ≡ part_count start.args.sheet.now start.args.choice.now strips * part_bytes (n_of start.args.sheet.now)
+  parted = ap₂ ◌*◌ (at-parts.parts.ensures ∙ ap (part_count start.args.sheet.now start.args.choice.now) (front start.args.got start.args.input.now)) c.part.ensures
 
   counted : at_count.count.result ≡ record_count start.args.sheet.now start.args.choice.now strips
-  counted =
-      at_count.count.ensures ∙ ap (record_count start.args.sheet.now start.args.choice.now) (front start.args.got start.args.input.now)
+  counted = at_count.count.ensures ∙ ap (record_count start.args.sheet.now start.args.choice.now) (front start.args.got start.args.input.now)
 
 mul-t25 : tie.Need-overflow-mul-t25
 mul-t25 c = omega (arith, parted c, (start c).requires.1.parts_fit, (start c).well-formed)
@@ -50,8 +46,7 @@ returns : tie.Need-returns
 unfolding head_bytes
 returns c =
     let A = (start c).args in
-    filled_in_lem A.sheet.now A.choice.now A.lost.now (strips c) A.repaired.now _ A.records.now
-    _ _ _ _ _ _ (front A.got A.input.now) (at-answer c).answer.ensures (start c).requires.1
+    filled_in_lem A.sheet.now A.choice.now A.lost.now (strips c) A.repaired.now _ A.records.now _ _ _ _ _ _ (front A.got A.input.now) (at-answer c).answer.ensures (start c).requires.1
     (at-parts c).parts.ensures c.part.ensures (at_count c).count.ensures
 
 pub fill_spec : {M : Type 1} → statement M

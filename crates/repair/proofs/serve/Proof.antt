@@ -3,7 +3,7 @@ use lib.ListN.{length-take}
 use Rattle.meaning.specs.Limits.{largest_n}
 use Rattle.strip_stream.proofs.Cases.{alone_shape, alone_choice}
 use Rattle.repair.specs.Runs.{run_strips}
-use Rattle.repair.proofs.Runs.{one-room, run_fits, run_is}
+use Rattle.repair.proofs.Runs.{one_room, ready, run_is}
 use borrow.Author.Rules.{rules}
 use native.Mathlib.Omega.{arith}
 use Rattle.repair.proofs.serve.Statement.{statement}
@@ -19,7 +19,7 @@ refuse-requires c κs =
     let at_n = then1.before in
     let A = (start at_n).args in
     let p = alone_shape A.sheet.now A.choice.now [] [] (rw (← at_n.n-of.ensures) then1.if1.true) in
-    (p.one, p.none, one-room _ (start at_n).requires.2)
+    (p.one, p.none, one_room _ (start at_n).requires.2)
 
 refuse-requires-2 : tie.Need-refuse-requires-2
 unfolding largest_n
@@ -28,7 +28,7 @@ refuse-requires-2 c κs =
     let at_n = then2.before.before in
     let A = (start at_n).args in
     let p = alone_choice A.sheet.now A.choice.now [] [] (rw (← at_n.n-of.ensures) then2.before.if1.false) then2.if2.true in
-    (p.one, p.none, one-room _ (start at_n).requires.2)
+    (p.one, p.none, one_room _ (start at_n).requires.2)
 
 shl-run : tie.Need-overflow-shl-run
 unfolding largest_n
@@ -45,8 +45,7 @@ run-requires c κs =
     let at_n = else2.before.before in
     let start = start at_n in
     let (e, l) = run_is _ else2.before.if1.false in
-    run_fits start.args.sheet.now start.args.choice.now _ at_n.n-of.ensures else2.before.if1.false
-    else2.if2.false _ _ _ (simp length-take (omega (arith, e, l, start.pre.0))) start.pre.1 start.pre.2
+    ready start.args.sheet.now start.args.choice.now _ at_n.n-of.ensures else2.before.if1.false else2.if2.false _ _ _ (simp length-take (omega (arith, e, l, start.pre.0))) start.pre.1 start.pre.2
 
 pub serve-spec : {M : Type 1} → statement M
 serve-spec =

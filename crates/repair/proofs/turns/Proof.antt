@@ -3,7 +3,7 @@ use Prim.Native.Nat.{◌≤◌, ◌-◌}
 use mathlib.Core.Bool.{false, true≢false}
 use lib.ListN.{length}
 use Rattle.intake.specs.Turns.{most_turns}
-use Rattle.repair.proofs.Runs.{run-fits-same}
+use Rattle.repair.proofs.Runs.{ready_same}
 use borrow.Author.Rules.{rules}
 use borrow.Author.Tests.{ltb-true, ltb-false}
 use native.Mathlib.Omega.{arith}
@@ -25,7 +25,7 @@ turn-requires : tie.Need-turn-requires invariant-loop decreases-loop
 turn-requires c κs =
     let at-loop = c.before.before.before.before.before in
     let start = at-loop.before.before.before.before.before.before.before in
-    run-fits-same _ _ _ _ _ _ _ _ at-loop.loop.invariant.0 at-loop.loop.invariant.1 at-loop.loop.invariant.2 start.requires
+    ready_same _ _ _ _ _ _ _ _ at-loop.loop.invariant.0 at-loop.loop.invariant.1 at-loop.loop.invariant.2 start.requires
 
 add-made : tie.Need-overflow-add-made invariant-loop decreases-loop
 unfolding most_turns

@@ -16,9 +16,7 @@ zero-requires : tie.Need-zero-requires invariant-loop decreases-loop
 zero-requires c κs = tt
 
 loop-holds : tie.Need-loop-init invariant-loop decreases-loop
-loop-holds c =
-    let Z = c.before.before in
-    (omega arith, sum-start _ _ _ _ _ _ _ Z.before.before.before.before.before.requires.0.0 Z.zero.ensures)
+loop-holds c = (omega arith, sum-start _ _ _ _ _ _ _ c.before.before.before.before.before.before.before.requires.0.0 c.before.before.zero.ensures)
 
 unnamed-below-requires : tie.Need-unnamed-below-requires invariant-loop decreases-loop
 unnamed-below-requires c κs =
@@ -61,23 +59,19 @@ loop-less-2 c = omega arith
 
 loop-again-2 : tie.Need-loop-preserved-2 invariant-loop decreases-loop
 loop-again-2 c =
-    let U = c.before.before.before.before.before in
-    let L = U.before.before in
-    let P = L.before.before.before.before.before.before.before.before.requires in
-    let gap = U.unnamed-below.ensures in
-    let C = c.before.before.add in (
-      omega arith,
-      sum-next _ _ _ _ _ _ P.0.1 P.1.0 _ _ L.loop.invariant.0 (omega (arith, gap.within)) gap
-          c.before.before.before.before.if1.false _ L.loop.invariant.1 _ C.auto.0 C.ensures,
-    )
+    let P = c.before.before.before.before.before.before.before.before.before.before.before.before.before.before.before.requires in
+    let inv = c.before.before.before.before.before.before.before.loop.invariant in
+    let gap = c.before.before.before.before.before.unnamed-below.ensures in
+    let C = c.before.before.add in
+    (omega arith, sum-next _ _ _ _ _ _ P.0.1 P.1.0 _ _ inv.0 (omega (arith, gap.within)) gap c.before.before.before.before.if1.false _ inv.1 _ C.auto.0 C.ensures)
 
 same_length : tie.Need-same-length invariant-loop decreases-loop
 same_length c = c.before.loop.invariant.1.size ∙ c.before.before.before.before.zero.auto.0
 
 returns : tie.Need-returns invariant-loop decreases-loop
 returns c =
-    let Z = c.before.before.before.before in
-    sum-all _ _ _ _ _ _ _ Z.before.before.before.before.before.requires.0.0 Z.zero.ensures _ _ c.loop-test.false c.before.loop.invariant.1
+    let inv = c.before.loop.invariant in
+    sum-all _ _ _ _ _ _ _ c.before.before.before.before.before.before.before.before.before.requires.0.0 c.before.before.before.before.zero.ensures _ _ c.loop-test.false inv.1
 
 pub named-row-spec : {M : Type 1} → statement M
 named-row-spec =

@@ -10,9 +10,7 @@ same_length : tie.Need-same-length
 same_length c = c.before.before.summed.auto.0
 
 returns : tie.Need-returns
-returns c =
-    c.before.before.summed.ensures
-    ∙ sym (ruled-is _ _ _ _ _ _ _ (sym c.before.before.before.before.before.fits2.ensures ∙ c.before.before.before.before.if1.true))
+returns c = c.before.before.summed.ensures ∙ sym (ruled-is _ _ _ _ _ _ _ (sym c.before.before.before.before.before.fits2.ensures ∙ c.before.before.before.before.if1.true))
 
 returns-2 : tie.Need-returns-2
 returns-2 c = sym (ruled-not _ _ _ _ _ _ _ (sym c.before.fits2.ensures ∙ c.if1.false))

@@ -3,7 +3,7 @@ use Prim.Native.Nat.{◌-◌, ◌≤◌}
 use native.Mathlib.Omega.{arith}
 use borrow.Author.Rules.{rules}
 use Rattle.meaning.specs.Limits.{record_bytes, mask_bytes}
-use Rattle.sheet.proofs.Records.{Counted, one_free, one-frozen, all-counted}
+use Rattle.sheet.proofs.Records.{Counted, one_free, one_frozen, all-counted}
 use Rattle.sheet.proofs.count_free.Statement.{statement}
 use Rattle.sheet.proofs.count_free.Tie as tie
 
@@ -39,7 +39,7 @@ loop-again c =
     let lt = turn.loop-test.true in
     ⊎_elim
     (λ w. (omega arith, omega arith, rw w.1 (one_free _ _ _ lt call.is_free.ensures w.0.taken _ inv.2)))
-    (λ w. (omega arith, omega arith, rw w.1 (one-frozen _ _ _ lt call.is_free.ensures w.0.left _ inv.2)))
+    (λ w. (omega arith, omega arith, rw w.1 (one_frozen _ _ _ lt call.is_free.ensures w.0.left _ inv.2)))
     c.if1.branch
 
 returns : tie.Need-returns invariant-loop decreases-loop

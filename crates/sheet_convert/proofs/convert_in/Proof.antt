@@ -33,8 +33,7 @@ returns c =
     let made = handing-out.before.before.before.before.before in
     let start = made.before.before.before.before.before in
     let A = start.args in
-    handing-out.hand-out.ensures ∙ ap (λ (s : List ℕ). handing A.n s A.out.now)
-    (filled A.n _ A.old.now _ made.widen.ensures start.requires.1) ∙ handed A.n A.old.now start.requires.0 A.out.now
+    handing-out.hand-out.ensures ∙ ap (λ (s : List ℕ). handing A.n s A.out.now) (filled A.n _ A.old.now _ made.widen.ensures start.requires.1) ∙ handed A.n A.old.now start.requires.0 A.out.now
 
 pub convert-in-spec : {M : Type 1} → statement M
 convert-in-spec = tie.close (tie.spec widen-requires hand-out-requires (λ c. search rules) (λ c. search rules) returns)

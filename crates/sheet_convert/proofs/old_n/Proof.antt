@@ -29,8 +29,7 @@ unfolding old_largest_n old_record_bytes old_mask_bytes
 returns c =
     let in-loop = c.before.before in
     let at-loop = in-loop.before in
-    size-found old_layout at-loop.before.before.args.old.now _ at-loop.loop.invariant.1 in-loop.loop-test.true
-    (c.if1.true ∙ ap (λ (k : ℕ). k * old_record_bytes) (c.before.size.ensures ∙ old-positions _ in-loop.loop-test.true))
+    size-found old_layout at-loop.before.before.args.old.now _ at-loop.loop.invariant.1 in-loop.loop-test.true (c.if1.true ∙ ap (λ (k : ℕ). k * old_record_bytes) (c.before.size.ensures ∙ old-positions _ in-loop.loop-test.true))
 
 add-n : tie.Need-overflow-add-n invariant-loop decreases-loop
 unfolding old_largest_n
@@ -44,11 +43,8 @@ loop-again : tie.Need-loop-preserved invariant-loop decreases-loop
 unfolding old_largest_n old_record_bytes old_mask_bytes
 loop-again c =
     let in-loop = c.before.before in
-    let at-loop = in-loop.before in (
-      omega arith,
-      size-next old_layout at-loop.before.before.args.old.now _ at-loop.loop.invariant.1 in-loop.loop-test.true
-          (λ e. c.if1.false (e ∙ ap (λ (k : ℕ). k * old_record_bytes) (sym (c.before.size.ensures ∙ old-positions _ in-loop.loop-test.true)))),
-    )
+    let at-loop = in-loop.before in
+    (omega arith, size-next old_layout at-loop.before.before.args.old.now _ at-loop.loop.invariant.1 in-loop.loop-test.true (λ e. c.if1.false (e ∙ ap (λ (k : ℕ). k * old_record_bytes) (sym (c.before.size.ensures ∙ old-positions _ in-loop.loop-test.true)))))
 
 returns-2 : tie.Need-returns-2 invariant-loop decreases-loop
 unfolding old_largest_n

@@ -30,10 +30,7 @@ loop-less : tie.Need-loop-smaller invariant-loop decreases-loop
 loop-less c = let s = c.before.before.loop.invariant.size in omega arith
 
 loop-again : tie.Need-loop-preserved invariant-loop decreases-loop
-loop-again c =
-    let inv = c.before.before.loop.invariant in
-    let s = inv.size in
-    filling_next inv _ (omega (arith, c.before.loop-test.true)) c.byte-at.ensures
+loop-again c = let inv = c.before.before.loop.invariant in let s = inv.size in filling_next inv _ (omega (arith, c.before.loop-test.true)) c.byte-at.ensures
 
 same_length : tie.Need-same-length invariant-loop decreases-loop
 same_length c = c.before.loop.invariant.size

@@ -8,10 +8,7 @@ use Rattle.show.proofs.shown.Tie as tie
 
 returns : tie.Need-returns
 unfolding written answer_bytes head_bytes strip_width
-returns c =
-    let start = c.before.before.before.before.before.before.before in
-    let l = c.before.before.line.ensures in
-    rw (eq-eqb start.args.got answer_bytes c.before.before.before.before.if1.true) (l.1, l.2)
+returns c = let l = c.before.before.line.ensures in rw (eq-eqb c.before.before.before.before.before.before.before.args.got answer_bytes c.before.before.before.before.if1.true) (l.1, l.2)
 
 returns-2 : tie.Need-returns-2
 unfolding written answer_bytes head_bytes strip_width

@@ -10,8 +10,7 @@ use Rattle.show.proofs.turns.Statement.{statement}
 use Rattle.show.proofs.turns.Tie as tie
 
 abbrev invariant-loop : tie.invariant-loop
-invariant-loop answer₀ out₀ made₀ more₀ answer out made more =
-    (length answer ≡ length answer₀) × (length out ≡ length out₀) × (made ≤ most_turns) × (more ≡ false → 1 ≤ made)
+invariant-loop answer₀ out₀ made₀ more₀ answer out made more = (length answer ≡ length answer₀) × (length out ≡ length out₀) × (made ≤ most_turns) × (more ≡ false → 1 ≤ made)
 
 abbrev decreases-loop : tie.decreases-loop
 decreases-loop answer₀ out₀ made₀ more₀ answer out made more = most_turns - made

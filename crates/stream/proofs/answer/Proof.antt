@@ -17,8 +17,7 @@ unfolding answer_bytes head_bytes strip_width
 write-requires c κs =
     let at_records = c.before.before in
     let start = at_records.before.before.before.before.before in
-    let A = start.args in
-    (at_records.records.ensures, room A.sheet.now A.choice.now A.input.now A.out.now _ at_records.records.ensures c.before.if1.false)
+    let A = start.args in (at_records.records.ensures, room A.sheet.now A.choice.now A.input.now A.out.now _ at_records.records.ensures c.before.if1.false)
 
 returns-2 : tie.Need-returns-2
 unfolding answer_bytes head_bytes strip_width

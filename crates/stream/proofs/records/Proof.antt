@@ -26,8 +26,7 @@ returns-3 c =
     let else1 = else2.before in
     let at_n = else1.before in
     let start = at_n.before.before.before.before in
-    counted start.args.sheet.now start.args.choice.now start.args.input.now _ at_n.n-of.ensures
-    else1.if1.false else2.if2.false _ (c.before.size.ensures ∙ positions-all _ else1.if1.false) _ c.count.ensures
+    counted start.args.sheet.now start.args.choice.now start.args.input.now _ at_n.n-of.ensures else1.if1.false else2.if2.false _ (c.before.size.ensures ∙ positions-all _ else1.if1.false) _ c.count.ensures
 
 pub records-spec : {M : Type 1} → statement M
 records-spec = tie.close (tie.spec (λ c κs. search rules) returns returns-2 (λ c κs. search rules) (λ c κs. search rules) returns-3)

@@ -16,8 +16,7 @@ use Rattle.stream.proofs.words.Statement.{statement}
 use Rattle.stream.proofs.words.Tie as tie
 
 abbrev invariant-loop : tie.invariant-loop
-invariant-loop n sheet r ceiling input k out₀ size i₀ out i =
-    (i ≤ k) × (length out ≡ length out₀) × (out ≡ flatten (tab i (record_at n sheet r ceiling input)) ++ drop (i * answer_bytes) out₀)
+invariant-loop n sheet r ceiling input k out₀ size i₀ out i = (i ≤ k) × (length out ≡ length out₀) × (out ≡ flatten (tab i (record_at n sheet r ceiling input)) ++ drop (i * answer_bytes) out₀)
 
 abbrev decreases-loop : tie.decreases-loop
 decreases-loop n sheet r ceiling input k out₀ size i₀ out i = k - i
@@ -30,16 +29,13 @@ module _ (c : tie.In-loop invariant-loop decreases-loop) where
   starts : c.before.loop.i * at_size.size.result < length at_size.before.before.before.before.args.input.now
   starts =
       let start = at_size.before.before.before.before in
-      begins (length start.args.input.now) (2 ^ start.args.n) at_size.size.result c.before.loop.i start.args.k
-      (omega (arith, pow_pos start.args.n)) (at_size.size.ensures ∙ positions-all _ start.pre.0) start.pre.1 c.loop-test.true
+      begins (length start.args.input.now) (2 ^ start.args.n) at_size.size.result c.before.loop.i start.args.k (omega (arith, pow_pos start.args.n)) (at_size.size.ensures ∙ positions-all _ start.pre.0) start.pre.1 c.loop-test.true
 
 -- and ends there
 ends : (c : tie.After-end invariant-loop decreases-loop)
     → let size = (at_size c.before).size.result in
     (c.before.before.loop.i * size ≤ c.end.result) × (c.end.result ≤ length (at_size c.before).before.before.before.before.args.input.now)
-ends c =
-    end_room (at_size c.before).size.result (length (at_size c.before).before.before.before.before.args.input.now)
-    c.before.before.loop.i c.end.result c.end.ensures (omega (arith, starts c.before))
+ends c = end_room (at_size c.before).size.result (length (at_size c.before).before.before.before.before.args.input.now) c.before.before.loop.i c.end.result c.end.ensures (omega (arith, starts c.before))
 
 size-requires : tie.Need-size-requires invariant-loop decreases-loop
 size-requires c κs = search rules
@@ -111,12 +107,10 @@ loop-again c =
     let A = start.args in
     let l = at-loop.loop in
     let x : at-answer.answer.new.1.1.1.1.1.0 ≡ record_at A.n A.sheet.now A.r A.ceiling A.input.now l.i = at-answer.answer.ensures
-    ∙ ap (answer_record A.n A.sheet.now A.r A.ceiling) (piece_is at_size.size.result A.input.now l.i _ at-end.end.ensures
-    ∙ ap (λ (L : ℕ). piece_at L A.input.now l.i) (at_size.size.ensures ∙ positions-all _ start.requires.0)) in (
+    ∙ ap (answer_record A.n A.sheet.now A.r A.ceiling) (piece_is at_size.size.result A.input.now l.i _ at-end.end.ensures ∙ ap (λ (L : ℕ). piece_at L A.input.now l.i) (at_size.size.ensures ∙ positions-all _ start.requires.0)) in (
       omega (arith, in-loop.loop-test.true),
       c.before.out.given.1 ∙ l.invariant.1,
-      put_record answer_bytes (record_at A.n A.sheet.now A.r A.ceiling A.input.now)
-          (λ i. record_long A.n A.sheet.now A.r A.ceiling _ start.requires.0) A.out.now l.i l.out _ l.invariant.2 x,
+      put_record answer_bytes (record_at A.n A.sheet.now A.r A.ceiling A.input.now) (λ i. record_long A.n A.sheet.now A.r A.ceiling _ start.requires.0) A.out.now l.i l.out _ l.invariant.2 x,
     )
 
 same_length : tie.Need-same-length invariant-loop decreases-loop

@@ -13,20 +13,14 @@ unfolding answer_bytes head_bytes strip_width largest_n
 part-refuse-end c =
     let start = c.before.before.before.before.before.before in
     let A = start.args in
-    shape_room A.sheet.now A.choice.now A.input.now A.out.now _ c.before.n-of.ensures
-    A.k start.requires.0 c.if1.true start.requires.1
+    shape_room A.sheet.now A.choice.now A.input.now A.out.now _ c.before.n-of.ensures A.k start.requires.0 c.if1.true start.requires.1
 
 refuse-requires : tie.Need-refuse-requires
 unfolding answer_bytes head_bytes strip_width largest_n
 refuse-requires c κs =
     let at_n = c.before.before in
     let start = at_n.before.before.before.before.before in
-    let A = start.args in
-    (simp length-take (omega (
-      arith,
-      shape_room A.sheet.now A.choice.now A.input.now
-          A.out.now _ at_n.n-of.ensures A.k start.requires.0 c.before.if1.true start.requires.1,
-    )))
+    let A = start.args in (simp length-take (omega (arith, shape_room A.sheet.now A.choice.now A.input.now A.out.now _ at_n.n-of.ensures A.k start.requires.0 c.before.if1.true start.requires.1)))
 
 part-refuse-end-2 : tie.Need-slice-bounds-refuse-end-2
 unfolding answer_bytes head_bytes strip_width largest_n
@@ -34,8 +28,7 @@ part-refuse-end-2 c =
     let at_n = c.before.before in
     let start = at_n.before.before.before.before.before in
     let A = start.args in
-    choice_room A.sheet.now A.choice.now A.input.now A.out.now _ at_n.n-of.ensures
-    A.k start.requires.0 c.before.if1.false c.if2.true start.requires.1
+    choice_room A.sheet.now A.choice.now A.input.now A.out.now _ at_n.n-of.ensures A.k start.requires.0 c.before.if1.false c.if2.true start.requires.1
 
 refuse-requires-2 : tie.Need-refuse-requires-2
 unfolding answer_bytes head_bytes strip_width largest_n
@@ -43,12 +36,7 @@ refuse-requires-2 c κs =
     let else1 = c.before.before in
     let at_n = else1.before in
     let start = at_n.before.before.before.before.before in
-    let A = start.args in
-    (simp length-take (omega (
-      arith,
-      choice_room A.sheet.now A.choice.now A.input.now
-          A.out.now _ at_n.n-of.ensures A.k start.requires.0 else1.if1.false c.before.if2.true start.requires.1,
-    )))
+    let A = start.args in (simp length-take (omega (arith, choice_room A.sheet.now A.choice.now A.input.now A.out.now _ at_n.n-of.ensures A.k start.requires.0 else1.if1.false c.before.if2.true start.requires.1)))
 
 shared-slice-read-words : tie.Need-shared-slice-read-words
 shared-slice-read-words c = omega (arith, c.before.if2.false)
@@ -69,12 +57,7 @@ words-requires c κs =
     let else1 = else2.before in
     let at_n = else1.before in
     let start = at_n.before.before.before.before.before in
-    let A = start.args in (
-      else1.if1.false,
-      words_count A.sheet.now A.choice.now A.input.now
-          A.out.now _ at_n.n-of.ensures A.k start.requires.0 else1.if1.false else2.if2.false,
-      start.requires.1,
-    )
+    let A = start.args in (else1.if1.false, words_count A.sheet.now A.choice.now A.input.now A.out.now _ at_n.n-of.ensures A.k start.requires.0 else1.if1.false else2.if2.false, start.requires.1)
 
 returns : tie.Need-returns
 unfolding answer_bytes head_bytes strip_width largest_n
@@ -84,8 +67,7 @@ returns c =
     let at_n = then1.before in
     let start = at_n.before.before.before.before.before in
     let A = start.args in
-    shape_alone A.sheet.now A.choice.now A.input.now A.out.now _ at_n.n-of.ensures
-    A.k start.requires.0 then1.if1.true _ at-refuse.refuse.ensures
+    shape_alone A.sheet.now A.choice.now A.input.now A.out.now _ at_n.n-of.ensures A.k start.requires.0 then1.if1.true _ at-refuse.refuse.ensures
 
 returns-2 : tie.Need-returns-2
 unfolding answer_bytes head_bytes strip_width largest_n
@@ -96,8 +78,7 @@ returns-2 c =
     let at_n = else1.before in
     let start = at_n.before.before.before.before.before in
     let A = start.args in
-    choice_alone A.sheet.now A.choice.now A.input.now A.out.now _ at_n.n-of.ensures
-    A.k start.requires.0 else1.if1.false then2.if2.true _ at-refuse2.refuse2.ensures
+    choice_alone A.sheet.now A.choice.now A.input.now A.out.now _ at_n.n-of.ensures A.k start.requires.0 else1.if1.false then2.if2.true _ at-refuse2.refuse2.ensures
 
 returns-3 : tie.Need-returns-3
 unfolding largest_n
@@ -108,8 +89,7 @@ returns-3 c =
     let at_n = else1.before in
     let start = at_n.before.before.before.before.before in
     let A = start.args in
-    words-all A.sheet.now A.choice.now A.input.now A.out.now _ at_n.n-of.ensures
-    A.k start.requires.0 else1.if1.false else2.if2.false _ at_words.words.ensures
+    words-all A.sheet.now A.choice.now A.input.now A.out.now _ at_n.n-of.ensures A.k start.requires.0 else1.if1.false else2.if2.false _ at_words.words.ensures
 
 pub write_spec : {M : Type 1} → statement M
 write_spec =

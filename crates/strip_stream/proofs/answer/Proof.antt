@@ -16,9 +16,7 @@ abbrev start : tie.After-count → tie.Start
 start c = c.before.before.before.before.before.before.before
 
 -- there is room for the records
-fit : (c : tie.Else1)
-    → let A = (start c.before).args in
-    ltb (length A.records.now) (record_count A.sheet.now A.choice.now A.input.now * head_bytes) ≡ false
+fit : (c : tie.Else1) → let A = (start c.before).args in ltb (length A.records.now) (record_count A.sheet.now A.choice.now A.input.now * head_bytes) ≡ false
 unfolding head_bytes
 fit c =
     let A = (start c.before).args in
@@ -26,8 +24,7 @@ fit c =
 
 -- and for the parts
 parts-fit : (c : tie.Else2)
-    → let A = (start c.before.before.before).args in
-    ltb (length A.repaired.now) (part_count A.sheet.now A.choice.now A.input.now * part_bytes (n_of A.sheet.now)) ≡ false
+    → let A = (start c.before.before.before).args in ltb (length A.repaired.now) (part_count A.sheet.now A.choice.now A.input.now * part_bytes (n_of A.sheet.now)) ≡ false
 parts-fit c = sym c.before.short.ensures ∙ c.if2.false
 
 returns : tie.Need-returns
@@ -41,8 +38,7 @@ returns-2 : tie.Need-returns-2
 returns-2 c =
     let else1 = c.before.before in
     let A = (start else1.before).args in
-    short_repaired A.sheet.now A.choice.now A.lost.now A.input.now A.repaired.now
-    A.records.now (fit else1) (sym c.before.short.ensures ∙ c.if2.true)
+    short_repaired A.sheet.now A.choice.now A.lost.now A.input.now A.repaired.now A.records.now (fit else1) (sym c.before.short.ensures ∙ c.if2.true)
 
 write-requires : tie.Need-write-requires
 write-requires c κs =
@@ -54,8 +50,7 @@ returns-3 c =
     let else2 = at-write.before.before.before in
     let else1 = else2.before.before in
     let A = (start else1.before).args in
-    answered A.sheet.now A.choice.now A.lost.now A.input.now A.repaired.now A.records.now
-    (fit else1) (parts-fit else2) _ _ at-write.write.ensures.0 at-write.write.ensures.1
+    answered A.sheet.now A.choice.now A.lost.now A.input.now A.repaired.now A.records.now (fit else1) (parts-fit else2) _ _ at-write.write.ensures.0 at-write.write.ensures.1
 
 pub answer-spec : {M : Type 1} → statement M
 answer-spec =

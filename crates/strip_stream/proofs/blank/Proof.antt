@@ -33,9 +33,7 @@ same_length : tie.Need-same-length invariant-loop decreases-loop
 same_length c = c.before.loop.invariant.size
 
 returns : tie.Need-returns invariant-loop decreases-loop
-returns c =
-    let s = c.before.loop.invariant.size in
-    filling_all c.before.loop.invariant (omega (arith, c.loop-test.false)) ∙ tab-same (length c.before.before.args.part.now) 255
+returns c = let s = c.before.loop.invariant.size in filling_all c.before.loop.invariant (omega (arith, c.loop-test.false)) ∙ tab-same (length c.before.before.args.part.now) 255
 
 pub blank-spec : {M : Type 1} → statement M
 blank-spec =

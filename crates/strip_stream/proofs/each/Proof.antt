@@ -49,8 +49,7 @@ module _ (c : tie.In-loop invariant-loop decreases-loop) where
   -- strip i starts within the input
   starts : c.before.loop.i * at-strip.strip-bytes.result < length start.args.input.now
   starts =
-      begins (length start.args.input.now) (strip_bytes start.args.n) at-strip.strip-bytes.result
-      c.before.loop.i start.args.k (strip-pos start.args.n) at-strip.strip-bytes.ensures start.pre.0.1
+      begins (length start.args.input.now) (strip_bytes start.args.n) at-strip.strip-bytes.result c.before.loop.i start.args.k (strip-pos start.args.n) at-strip.strip-bytes.ensures start.pre.0.1
       c.loop-test.true
 
   -- and there is room for its part
@@ -62,11 +61,8 @@ module _ (c : tie.In-loop invariant-loop decreases-loop) where
 
 -- it ends within the input
 ends : (c : tie.After-end invariant-loop decreases-loop)
-    → (c.before.before.loop.i * (at-strip c.before).strip-bytes.result ≤ c.end.result)
-    × (c.end.result ≤ length (start c.before).args.input.now)
-ends c =
-    end_room (at-strip c.before).strip-bytes.result (length (start c.before).args.input.now)
-    c.before.before.loop.i c.end.result c.end.ensures (omega (arith, starts c.before))
+    → (c.before.before.loop.i * (at-strip c.before).strip-bytes.result ≤ c.end.result) × (c.end.result ≤ length (start c.before).args.input.now)
+ends c = end_room (at-strip c.before).strip-bytes.result (length (start c.before).args.input.now) c.before.before.loop.i c.end.result c.end.ensures (omega (arith, starts c.before))
 
 strip-bytes-requires : tie.Need-strip-bytes-requires invariant-loop decreases-loop
 strip-bytes-requires c κs = omega (arith, c.before.before.before.before.before.requires.0.0)
@@ -76,9 +72,7 @@ part-bytes-requires c κs = omega (arith, c.before.before.before.before.before.b
 
 loop-holds : tie.Need-loop-init invariant-loop decreases-loop
 unfolding flatten head_bytes
-loop-holds c =
-    let start = c.before.before.before.before.before.before.before in
-    (omega arith, refl, refl, ap (λ (j : ℕ). drop j start.args.repaired.now) (let e : 0 ≡ 0 * c.part_bytes.result = omega arith in e), refl)
+loop-holds c = (omega arith, refl, refl, ap (λ (j : ℕ). drop j c.before.before.before.before.before.before.before.args.repaired.now) (let e : 0 ≡ 0 * c.part_bytes.result = omega arith in e), refl)
 
 mul-from : tie.Need-overflow-mul-from invariant-loop decreases-loop
 mul-from c = omega (arith, starts c)
@@ -150,19 +144,15 @@ loop-again c =
     let in-loop = at-end.before in
     let l = in-loop.before.loop in
     let A = (start in-loop).args in
-    let e =
-    piece_is (at-strip in-loop).strip-bytes.result A.input.now l.i _ at-end.end.ensures
-    ∙ ap (λ (L : ℕ). piece_at L A.input.now l.i) (at-strip in-loop).strip-bytes.ensures in (
+    let e = piece_is (at-strip in-loop).strip-bytes.result A.input.now l.i _ at-end.end.ensures ∙ ap (λ (L : ℕ). piece_at L A.input.now l.i) (at-strip in-loop).strip-bytes.ensures in (
       omega (arith, in-loop.loop-test.true),
       c.before.before.before.repaired.given.1 ∙ l.invariant.1,
       c.before.records.given.1 ∙ l.invariant.2,
       put_record (at_part in-loop).part_bytes.result (part A.n A.sheet.now A.r A.ceiling A.lost.now A.input.now)
-          (λ i. reply_long A.n A.sheet.now A.r A.ceiling A.lost.now _ ∙ sym (at_part in-loop).part_bytes.ensures)
-          A.repaired.now l.i l.repaired _ l.invariant.3
+          (λ i. reply_long A.n A.sheet.now A.r A.ceiling A.lost.now _ ∙ sym (at_part in-loop).part_bytes.ensures) A.repaired.now l.i l.repaired _ l.invariant.3
           (at_one.one.ensures.0 ∙ ap (λ (w : List ℕ). (strip_reply A.n A.sheet.now A.r A.ceiling A.lost.now w).bytes) e),
       put_record head_bytes (head A.n A.sheet.now A.r A.ceiling A.lost.now A.input.now)
-          (λ i. header-long (reply A.n A.sheet.now A.r A.ceiling A.lost.now A.input.now i).answer)
-          A.records.now l.i l.records _ l.invariant.4
+          (λ i. header-long (reply A.n A.sheet.now A.r A.ceiling A.lost.now A.input.now i).answer) A.records.now l.i l.records _ l.invariant.4
           (at_one.one.ensures.1 ∙ ap (λ (w : List ℕ). header (strip_reply A.n A.sheet.now A.r A.ceiling A.lost.now w).answer) e),
     )
 
@@ -179,10 +169,8 @@ returns c =
     let A = at-part-bytes.before.before.before.before.before.before.before.args in
     let l = c.before.loop in
     let q : l.i ≡ A.k = omega (arith, c.loop-test.false, l.invariant.0) in (
-      l.invariant.3 ∙ ap₂ {C = List ℕ} (λ j w. flatten (tab j (part A.n A.sheet.now A.r A.ceiling A.lost.now A.input.now))
-          ++ drop (j * w) A.repaired.now) q at-part-bytes.part_bytes.ensures,
-      l.invariant.4 ∙ ap (λ (j : ℕ). flatten (tab j (head A.n A.sheet.now A.r A.ceiling A.lost.now A.input.now))
-          ++ drop (j * head_bytes) A.records.now) q,
+      l.invariant.3 ∙ ap₂ {C = List ℕ} (λ j w. flatten (tab j (part A.n A.sheet.now A.r A.ceiling A.lost.now A.input.now)) ++ drop (j * w) A.repaired.now) q at-part-bytes.part_bytes.ensures,
+      l.invariant.4 ∙ ap (λ (j : ℕ). flatten (tab j (head A.n A.sheet.now A.r A.ceiling A.lost.now A.input.now)) ++ drop (j * head_bytes) A.records.now) q,
     )
 
 pub each_spec : {M : Type 1} → statement M

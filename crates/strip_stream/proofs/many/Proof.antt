@@ -30,8 +30,7 @@ returns-3 c =
     let else1 = else2.before in
     let at_n = else1.before in
     let A = at_n.before.before.before.before.args in
-    many-right A.sheet.now A.choice.now A.input.now A.alone _ at_n.n-of.ensures
-    else1.if1.false else2.if2.false _ _ c.before.strip-bytes.ensures c.count.ensures
+    many-right A.sheet.now A.choice.now A.input.now A.alone _ at_n.n-of.ensures else1.if1.false else2.if2.false _ _ c.before.strip-bytes.ensures c.count.ensures
 
 pub many-spec : {M : Type 1} → statement M
 many-spec = tie.close (tie.spec (λ c κs. search rules) returns returns-2 strip-bytes-requires (λ c κs. search rules) returns-3)

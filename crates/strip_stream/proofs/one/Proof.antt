@@ -13,12 +13,8 @@ returns c =
     let at-blank = at-repair.before.before.before.before in
     let start = at-blank.before.before.before.before.before.before.before in
     let A = start.args in
-    let reply =
-    replied A.n A.sheet.now A.r A.ceiling A.lost.now A.strip.now
-    A.part.now _ _ _ start.requires.0 at-blank.blank.ensures at-repair.repair.ensures in (
-      ap (λ (t : Reply). t.bytes) reply,
-      put_whole at-repair.repair.result A.head.now _ start.requires.1 at-put.put.ensures ∙ ap (λ (t : Reply). header t.answer) reply,
-    )
+    let reply = replied A.n A.sheet.now A.r A.ceiling A.lost.now A.strip.now A.part.now _ _ _ start.requires.0 at-blank.blank.ensures at-repair.repair.ensures in
+    (ap (λ (t : Reply). t.bytes) reply, put_whole at-repair.repair.result A.head.now _ start.requires.1 at-put.put.ensures ∙ ap (λ (t : Reply). header t.answer) reply)
 
 pub one_spec : {M : Type 1} → statement M
 one_spec = tie.close (tie.spec (λ c κs. search rules) (λ c κs. search rules) (λ c κs. search rules) (λ c. search rules) (λ c. search rules) returns)

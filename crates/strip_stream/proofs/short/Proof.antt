@@ -16,8 +16,7 @@ div-result c = omega (arith, c.part.ensures, part-pos (n_of c.before.before.befo
 returns : tie.Need-returns
 returns c =
     let A = c.before.before.before.before.before.args in
-    ap₂ (λ (p k : ℕ). ltb (A.room / p) k) c.before.part.ensures c.parts.ensures
-    ∙ short_is A.room (part_bytes (n_of A.sheet.now)) _ (part-pos (n_of A.sheet.now))
+    ap₂ (λ (p k : ℕ). ltb (A.room / p) k) c.before.part.ensures c.parts.ensures ∙ short_is A.room (part_bytes (n_of A.sheet.now)) _ (part-pos (n_of A.sheet.now))
 
 pub short-spec : {M : Type 1} → statement M
 short-spec = tie.close (tie.spec (λ c κs. search rules) div-result (λ c κs. search rules) returns)

@@ -16,16 +16,13 @@ start c = c.before.before.before.before.before.before.before
 
 shape : (c : tie.Then1) → let A = (start c.before).args in Alone A.sheet.now A.choice.now A.lost.now A.input.now BadShape
 unfolding largest_n
-shape c =
-    let A = (start c.before).args in
-    alone_shape A.sheet.now A.choice.now A.lost.now A.input.now (rw (← c.before.n-of.ensures) c.if1.true)
+shape c = let A = (start c.before).args in alone_shape A.sheet.now A.choice.now A.lost.now A.input.now (rw (← c.before.n-of.ensures) c.if1.true)
 
 choice : (c : tie.Then2) → let A = (start c.before.before).args in Alone A.sheet.now A.choice.now A.lost.now A.input.now BadCheck
 unfolding largest_n
 choice c =
     let A = (start c.before.before).args in
-    alone_choice A.sheet.now A.choice.now A.lost.now A.input.now
-    (rw (← c.before.before.n-of.ensures) c.before.if1.false) c.if2.true
+    alone_choice A.sheet.now A.choice.now A.lost.now A.input.now (rw (← c.before.before.n-of.ensures) c.before.if1.false) c.if2.true
 
 good : (c : tie.Else2) → let A = (start c.before.before).args in Right A.sheet.now A.choice.now A.lost.now A.input.now
 unfolding largest_n

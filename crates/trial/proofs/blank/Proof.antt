@@ -1,5 +1,4 @@
--- `trial::blank` meets its contract. The first i bytes are 165, the others are as they were, and so is the length.
--- `i-end` is the length that the slice came with.
+-- `trial::blank` meets its contract. The first i bytes are 165, the others are as they were, and so is the length. `i-end` is the length that the slice came with.
 -- Assumes nothing.
 use Prim.Native.Nat.{ℕ, ◌-◌, ◌≤◌, zero-le}
 use mathlib.Core.Path.{◌≡◌, refl, ap, subst, ◌∙◌}

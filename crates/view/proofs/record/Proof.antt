@@ -46,8 +46,7 @@ unfolding largest_n cartridge_bytes
 returns-4 c =
     let a = c.before.before.before.before.before.before.args in
     let e = c.before.before.before.type_size.ensures in
-    view_there a.strip a.n a.at (there a.n a.at _ (omega (arith, c.before.before.before.before.if1.false))
-    (omega (arith, c.before.before.if2.false)) (omega (arith, c.before.if3.false))) _ refl
+    view_there a.strip a.n a.at (there a.n a.at _ (omega (arith, c.before.before.before.before.if1.false)) (omega (arith, c.before.before.if2.false)) (omega (arith, c.before.if3.false))) _ refl
 
 pub record-spec : {M : Type 1} → statement M
 record-spec =

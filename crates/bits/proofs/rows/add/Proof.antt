@@ -73,10 +73,8 @@ loop-again : tie.Need-loop-preserved invariant-loop decreases-loop
 loop-again c =
     let A = c.before.before.before.before.before.before.before.before.before.before.args in
     let turn = c.before.before.loop-test.true in
-    let inv = c.before.before.before.loop.invariant.0 in (
-      pasted_next inv _ turn (ap₂ bit_xor (still inv turn) (sym (get_or_part A.s.now A.from A.w _ turn)) ∙ sym (get_or-⊻ _ _ _)),
-      c.before.before.before.loop.invariant.1,
-    )
+    let inv = c.before.before.before.loop.invariant.0 in
+    (pasted_next inv _ turn (ap₂ bit_xor (still inv turn) (sym (get_or_part A.s.now A.from A.w _ turn)) ∙ sym (get_or-⊻ _ _ _)), c.before.before.before.loop.invariant.1)
 
 same_length : tie.Need-same-length invariant-loop decreases-loop
 same_length c = c.before.loop.invariant.0.size

@@ -24,15 +24,13 @@ returns-3 : tie.Need-returns-3
 returns-3 c =
     let second = c.before in
     let first = second.before.before in
-    apart-left _ _ _ _ (lies-room _ _ _ first.before.lies.ensures first.if1.false)
-    (lies-room _ _ _ second.before.lies2.ensures second.if2.false) c.if3.true
+    apart-left _ _ _ _ (lies-room _ _ _ first.before.lies.ensures first.if1.false) (lies-room _ _ _ second.before.lies2.ensures second.if2.false) c.if3.true
 
 returns-4 : tie.Need-returns-4
 returns-4 c =
     let second = c.before in
     let first = second.before.before in
-    apart-right _ _ _ _ (lies-room _ _ _ first.before.lies.ensures first.if1.false)
-    (lies-room _ _ _ second.before.lies2.ensures second.if2.false) c.if3.false
+    apart-right _ _ _ _ (lies-room _ _ _ first.before.lies.ensures first.if1.false) (lies-room _ _ _ second.before.lies2.ensures second.if2.false) c.if3.false
 
 pub apart-spec : {M : Type 1} → statement M
 apart-spec = tie.close (tie.spec (λ c κs. search rules) returns (λ c κs. search rules) returns-2 add-if3 add-result returns-3 returns-4)

@@ -12,11 +12,10 @@ use Rattle.checks.proofs.register.divide.Statement.{statement}
 use Rattle.checks.proofs.register.divide.Tie as tie
 
 abbrev invariant-loop : tie.invariant-loop
-invariant-loop reg₀ sheet size us width k h₀ i₀ reg h i =
-    (h < length reg₀) × (length reg ≡ length reg₀) × Dividing (length reg₀) sheet size us width.words width.coeffs k (turned reg h) i
+invariant-loop reg₀ sheet size us w c k h₀ i₀ reg h i = (h < length reg₀) × (length reg ≡ length reg₀) × Dividing (length reg₀) sheet size us w c k (turned reg h) i
 
 abbrev decreases-loop : tie.decreases-loop
-decreases-loop reg₀ sheet size us width k h₀ i₀ reg h i = size - i
+decreases-loop reg₀ sheet size us w c k h₀ i₀ reg h i = size - i
 
 unit-word-requires : tie.Need-unit-word-requires invariant-loop decreases-loop
 unit-word-requires c κs = search rules
@@ -33,36 +32,36 @@ loop-holds c =
 is-free-requires : tie.Need-is-free-requires invariant-loop decreases-loop
 is-free-requires c κs = search rules
 
--- in a turn
-abbrev first : tie.At-loop invariant-loop decreases-loop → tie.Start invariant-loop decreases-loop
-first c = c.before.before.before.before.before.before.before.before.before
-
--- the word that is fed lies within the rows
-word_there : (c : tie.In-loop invariant-loop decreases-loop)
-    → let A = (first c.before).args in c.before.loop.i * A.width.words + A.k < length A.us.now
-word_there c =
-    let S = first c.before in
-    let A = S.args in
-    column-room 0 [] _ A.us.now A.width.words A.width.coeffs A.k c.before.loop.i S.pre.1.1 S.pre.1.2 c.loop-test.true
-
 mul-feed : tie.Need-overflow-mul-feed invariant-loop decreases-loop
-mul-feed c = omega (arith, word_there c.before.before.before.before)
+mul-feed c =
+    let S = c.before.before.before.before.before.before.before.before.before.before.before.before.before in
+    let f = column-room 0 [] _ S.args.us.now S.args.w S.args.c S.args.k c.before.before.before.before.loop.i S.requires.1.1 S.requires.1.2 c.before.before.before.loop-test.true in
+    omega (arith, f)
 
 add-feed : tie.Need-overflow-add-feed invariant-loop decreases-loop
-add-feed c = omega (arith, word_there c.before.before.before.before)
+add-feed c =
+    let S = c.before.before.before.before.before.before.before.before.before.before.before.before.before in
+    let f = column-room 0 [] _ S.args.us.now S.args.w S.args.c S.args.k c.before.before.before.before.loop.i S.requires.1.1 S.requires.1.2 c.before.before.before.loop-test.true in
+    omega (arith, f)
 
 mul-feed-2 : tie.Need-overflow-mul-feed-2 invariant-loop decreases-loop
-mul-feed-2 c = omega (arith, word_there c.before.before.before.before)
+mul-feed-2 c =
+    let S = c.before.before.before.before.before.before.before.before.before.before.before.before.before in
+    let f = column-room 0 [] _ S.args.us.now S.args.w S.args.c S.args.k c.before.before.before.before.loop.i S.requires.1.1 S.requires.1.2 c.before.before.before.loop-test.true in
+    omega (arith, f)
 
 shared-slice-read-feed : tie.Need-shared-slice-read-feed invariant-loop decreases-loop
-shared-slice-read-feed c = omega (arith, word_there c.before.before.before.before.before)
+shared-slice-read-feed c =
+    let S = c.before.before.before.before.before.before.before.before.before.before.before.before.before.before in
+    let f = column-room 0 [] _ S.args.us.now S.args.w S.args.c S.args.k c.before.before.before.before.before.loop.i S.requires.1.1 S.requires.1.2 c.before.before.before.before.loop-test.true in
+    omega (arith, f)
 
 feed-requires : tie.Need-feed-requires invariant-loop decreases-loop
 feed-requires c κs =
-    let L = c.before.before.before.before.before.before in
-    let inv = L.loop.invariant in
-    let n = L.before.before.before.start.auto.0 in
-    (omega (arith, inv.0, inv.1), omega (arith, inv.1, n, (first L).requires.1.0))
+    let inv = c.before.before.before.before.before.loop.invariant in
+    let n = c.before.before.before.before.before.before.before.before.start.auto.0 in
+    let P = c.before.before.before.before.before.before.before.before.before.before.before.before.before.before.requires in
+    (omega (arith, inv.0, inv.1), omega (arith, inv.1, n, P.1.0))
 
 add-i : tie.Need-overflow-add-i invariant-loop decreases-loop
 add-i c = omega arith
@@ -72,27 +71,20 @@ loop-less c = omega arith
 
 loop-again : tie.Need-loop-preserved invariant-loop decreases-loop
 loop-again c =
-    let L = c.before.before.before in
-    let l = L.loop in
+    let l = c.before.before.before.loop in
     let inv = l.invariant in
-    let A = (first L).args in
+    let A = c.before.before.before.before.before.before.before.before.before.before.before.before.args in
     let K = c.before.is_free in
     let t = c.before.before.loop-test.true in
     let here : l.h < length l.reg = omega (arith, inv.0, inv.1) in
-    let b = get_or A.us.now (l.i * A.width.words + A.k) 0 in
     ⊎_elim
     (λ x. (
-      omega (arith, x.8, x.4.ensures.0, inv.1),
-      ap length x.7 ∙ x.4.kept.0 ∙ inv.1,
+      omega (arith, x.7, x.3.ensures.0, inv.1),
+      ap length x.6 ∙ x.3.kept.0 ∙ inv.1,
       dividing-free _ _ _ _ _ _ _ _ _ inv.2 t K.ensures x.0.taken _
-          (ap₂ turned x.7 x.8 ∙ x.4.ensures.1
-          ∙ ap (λ (n : ℕ). fed n (turned l.reg l.h) b) (sym (length-turned l.reg l.h here))),
+          (ap₂ turned x.6 x.7 ∙ x.3.ensures.1 ∙ ap (λ (n : ℕ). fed n (turned l.reg l.h) (get_or A.us.now (l.i * A.w + A.k) 0)) (sym (length-turned l.reg l.h here))),
     ))
-    (λ x. (
-      omega (arith, x.2, inv.0),
-      ap length x.1 ∙ inv.1,
-      rw (x.1, x.2) (dividing-frozen _ _ _ _ _ _ _ _ _ inv.2 t K.ensures x.0.left),
-    ))
+    (λ x. (omega (arith, x.2, inv.0), ap length x.1 ∙ inv.1, rw (x.1, x.2) (dividing-frozen _ _ _ _ _ _ _ _ _ inv.2 t K.ensures x.0.left)))
     c.if1.branch
 
 same_length : tie.Need-same-length invariant-loop decreases-loop
@@ -102,11 +94,8 @@ returns : tie.Need-returns invariant-loop decreases-loop
 returns c =
     let A = c.before.before.before.before.before.before.before.before.before.before.args in
     let n = c.before.before.before.before.start.auto.0 in
-    let inv = c.before.loop.invariant in (
-      omega (arith, n, inv.0),
-      dividing-all _ _ _ _ _ _ _ _ _ inv.2 c.loop-test.false
-          ∙ ap (λ (r : ℕ). remainder r A.sheet.now A.size A.us.now A.width.words A.width.coeffs A.k) n,
-    )
+    let inv = c.before.loop.invariant in
+    (omega (arith, n, inv.0), dividing-all _ _ _ _ _ _ _ _ _ inv.2 c.loop-test.false ∙ ap (λ (r : ℕ). remainder r A.sheet.now A.size A.us.now A.w A.c A.k) n)
 
 pub divide-spec : {M : Type 1} → statement M
 divide-spec =

@@ -16,13 +16,10 @@ columns-requires c κs =
     let S = c.before.before.before.before.before.before in
     let l = length-take-le S.args.r (replicate {A = ℕ} 11 0) S.requires.0 in
     let z : 0 < S.args.r = omega arith in
-    (omega (arith, l, z), (omega (arith, l, S.requires.0), S.requires.1, S.requires.2 ∙ ap (λ (x : ℕ). x * S.args.width.words) (sym l)))
+    (omega (arith, l, z), (omega (arith, l, S.requires.0), S.requires.1, S.requires.2 ∙ ap (λ (x : ℕ). x * S.args.w) (sym l)))
 
 returns-2 : tie.Need-returns-2
-returns-2 c =
-    let B = c.before.before.before in
-    columns_long _ _ _ _ _ _ _ B.columns.new.1.1.1.1.1.0 (length-take-le _ _ B.before.before.before.before.before.before.before.requires.0)
-    B.columns.ensures
+returns-2 c = columns_long _ _ _ _ _ _ _ c.before.before.before.columns.new.1.1.1.1.1.1.0 (length-take-le _ _ c.before.before.before.before.before.before.before.before.before.before.requires.0) c.before.before.before.columns.ensures
 
 pub write_spec : {M : Type 1} → statement M
 write_spec = tie.close (tie.spec (λ c. search rules) (λ c. search rules) slice-aggregate-columns columns-requires (λ c. search rules) returns-2)

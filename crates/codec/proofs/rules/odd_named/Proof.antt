@@ -56,9 +56,7 @@ loop-again c =
       omega arith,
       ap₂ bit_xor inv.1 c.parity.ensures
           ∙ word_more (names A.sheet.now A.i) A.values.now k W.result
-          (c.before.shared-slice-known3.given _).fits
-          (word_bits_lem A.sheet.now A.i k W.result
-          (word_there A.sheet.now A.i k W.result turn.loop-test.true start.requires.0 W.ensures)),
+          (c.before.shared-slice-known3.given _).fits (word_bits_lem A.sheet.now A.i k W.result (word_there A.sheet.now A.i k W.result turn.loop-test.true start.requires.0 W.ensures)),
     )
 
 returns : tie.Need-returns invariant-loop decreases-loop

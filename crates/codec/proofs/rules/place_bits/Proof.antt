@@ -23,9 +23,7 @@ decreases-loop sheet free u₀ values₀ next₀ i₀ u values next i = length u
 
 loop-holds : tie.Need-loop-init invariant-loop decreases-loop
 unfolding mask_bytes
-loop-holds c =
-    let start = c.before.before.before in
-    starts start.args.sheet.now _ _ start.args.u.now refl (length-map start.args.free.now isOne ∙ start.requires.1.1)
+loop-holds c = let start = c.before.before.before in starts start.args.sheet.now _ _ start.args.u.now refl (length-map start.args.free.now isOne ∙ start.requires.1.1)
 
 is-free-requires : tie.Need-is-free-requires invariant-loop decreases-loop
 is-free-requires c κs = tt
@@ -34,8 +32,7 @@ shared-slice-read-b : tie.Need-shared-slice-read-b invariant-loop decreases-loop
 shared-slice-read-b c =
     let turn = c.before.before.before in
     rw (← (length-map turn.before.before.before.before.before.args.free.now isOne))
-    (free-room _ _ _ _ _ _ _ (rw turn.before.loop.invariant.long at turn.loop-test.true)
-    turn.before.loop.invariant (sym c.before.before.is_free.ensures ∙ c.before.if1.true))
+    (free-room _ _ _ _ _ _ _ (rw turn.before.loop.invariant.long at turn.loop-test.true) turn.before.loop.invariant (sym c.before.before.is_free.ensures ∙ c.before.if1.true))
 
 add_next : tie.Need-overflow-add-next invariant-loop decreases-loop
 unfolding mask_bytes record_bytes
@@ -66,10 +63,8 @@ remember-requires c κs =
           (λ w.
           let e = sym c.before.before.is_free.ensures ∙ w.0.taken in
           let h : turn.before.loop.i < length start.args.u.now = rw inv.long at turn.loop-test.true in
-          small _ (get_or (map isOne start.args.free.now) turn.before.loop.next false)
-          (w.3 ∙ free-bit start.args.free.now _ start.requires.1.0 (free-room _ _ _ _ _ _ _ h inv e)))
-          (λ w. small _ (eqb (byte start.args.sheet.now turn.before.loop.i 1) 1
-          ⊕ odd (mask start.args.sheet.now turn.before.loop.i) (held turn.before.loop.values)) (w.4 ∙ w.2.ensures))
+          small _ (get_or (map isOne start.args.free.now) turn.before.loop.next false) (w.3 ∙ free-bit start.args.free.now _ start.requires.1.0 (free-room _ _ _ _ _ _ _ h inv e)))
+          (λ w. small _ (eqb (byte start.args.sheet.now turn.before.loop.i 1) 1 ⊕ odd (mask start.args.sheet.now turn.before.loop.i) (held turn.before.loop.values)) (w.4 ∙ w.2.ensures))
           c.before.if1.branch,
     )
 

@@ -15,8 +15,7 @@ odd-named-requires c κs = c.before.before.requires
 returns : tie.Need-returns
 returns c =
     let start = c.before.before.before.before.before in
-    rw (eq-eqb _ 1 (sym c.before.byte.ensures ∙ c.if1.true)) (ap (λ (x : ℕ). bit_xor x 1) c.before.before.odd-named.ensures
-    ∙ flipped (odd (mask start.args.sheet.now start.args.i) (held start.args.values.now)))
+    rw (eq-eqb _ 1 (sym c.before.byte.ensures ∙ c.if1.true)) (ap (λ (x : ℕ). bit_xor x 1) c.before.before.odd-named.ensures ∙ flipped (odd (mask start.args.sheet.now start.args.i) (held start.args.values.now)))
 
 returns-2 : tie.Need-returns-2
 returns-2 c = rw (ne_eqb _ 1 (λ e. c.if1.false (c.before.byte.ensures ∙ e))) c.before.before.odd-named.ensures

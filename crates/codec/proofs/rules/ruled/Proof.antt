@@ -34,8 +34,7 @@ part-same-end c =
     let call = c.before.before in
     let start = c.before.before.before.before.before.before.before in
     let u = start.args.u.now in
-    within start.args.sheet.now start.args.free.now u (lend u) (room_for u start.requires.0.1)
-    call.place-bits.new.1.1.0 _ call.place-bits.auto.1.1.0
+    within start.args.sheet.now start.args.free.now u (lend u) (room_for u start.requires.0.1) call.place-bits.new.1.1.0 _ call.place-bits.auto.1.1.0
 
 returns : tie.Need-returns
 unfolding mask_bytes
@@ -44,8 +43,7 @@ returns c =
     let start = c.before.before.before.before.before.before.before.before.before in
     let u = start.args.u.now in
     let el = room_for u start.requires.0.1 in
-    compared start.args.sheet.now start.args.free.now u (lend u) el call.place-bits.new.1.1.0
-    _ call.place-bits.auto.1.1.0 call.place-bits.ensures _ c.same.ensures.0 c.same.ensures.1
+    compared start.args.sheet.now start.args.free.now u (lend u) el call.place-bits.new.1.1.0 _ call.place-bits.auto.1.1.0 call.place-bits.ensures _ c.same.ensures.0 c.same.ensures.1
 
 pub ruled-spec : {M : Type 1} → statement M
 ruled-spec =

@@ -26,8 +26,7 @@ slice-write-free : tie.Need-slice-write-free invariant-loop decreases-loop
 slice-write-free c =
     let turn = c.before.before.before in
     let start = turn.before.before.before.before.before in
-    take-room _ _ _ refl start.requires.0.1 _ _ _ turn.loop-test.true
-    turn.before.loop.invariant.1 (sym c.before.before.is_free.ensures ∙ c.before.if1.true)
+    take-room _ _ _ refl start.requires.0.1 _ _ _ turn.loop-test.true turn.before.loop.invariant.1 (sym c.before.before.is_free.ensures ∙ c.before.if1.true)
 
 add_next : tie.Need-overflow-add-next invariant-loop decreases-loop
 add_next c = omega (arith, slice-write-free c)
@@ -45,15 +44,9 @@ loop-again c =
     let inv = turn.before.loop.invariant in
     ⊎_elim
     (λ w.
-    let e = sym c.before.is_free.ensures ∙ w.0.taken in (
-      rw w.2 (length-set turn.before.loop.free _ _ ∙ inv.0),
-      rw (w.2, w.3) (free_taken _ _ _ refl start.requires.0.1 _ _ _ turn.loop-test.true inv.1 e),
-    ))
-    (λ w. (
-      rw w.1 inv.0,
-      rw (w.1, w.2)
-          (frozen_passed _ _ _ refl start.requires.0.1 _ _ _ turn.loop-test.true inv.1 (sym c.before.is_free.ensures ∙ w.0.left)),
-    ))
+    let e = sym c.before.is_free.ensures ∙ w.0.taken in
+    (rw w.2 (length-set turn.before.loop.free _ _ ∙ inv.0), rw (w.2, w.3) (free_taken _ _ _ refl start.requires.0.1 _ _ _ turn.loop-test.true inv.1 e)))
+    (λ w. (rw w.1 inv.0, rw (w.1, w.2) (frozen_passed _ _ _ refl start.requires.0.1 _ _ _ turn.loop-test.true inv.1 (sym c.before.is_free.ensures ∙ w.0.left))))
     c.if1.branch
 
 same_length : tie.Need-same-length invariant-loop decreases-loop

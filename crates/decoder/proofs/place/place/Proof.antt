@@ -32,13 +32,8 @@ loop-less c = omega arith
 loop-again : tie.Need-loop-preserved invariant-loop decreases-loop
 loop-again c =
     let inv = c.before.before.before.before.before.loop.invariant in
-    let C = c.before.before.put in (
-      omega arith,
-      C.auto.1.0 ∙ inv.1,
-      place-next c.before.before.before.before.loop-test.true inv.2 C.ensures,
-      zero-next inv.3
-          C.ensures,
-    )
+    let C = c.before.before.put in
+    (omega arith, C.auto.1.0 ∙ inv.1, place-next c.before.before.before.before.loop-test.true inv.2 C.ensures, zero-next inv.3 C.ensures)
 
 same_length : tie.Need-same-length invariant-loop decreases-loop
 same_length c = c.before.loop.invariant.1

@@ -1,5 +1,7 @@
 use mathlib.Core.Path.{refl}
+use Prim.Native.Nat.{◌+◌}
 use lib.ListN.{length}
+use borrow.Author.Rules.{rules}
 use Rattle.meaning.specs.Limits.{largest_ceiling}
 use Rattle.system.specs.Solving.{longest_check}
 use Rattle.decoder.specs.Rooms.{few_words, most_wide}
@@ -10,16 +12,14 @@ use Rattle.decoder.proofs.rooms.few.Tie as tie
 within-requires : tie.Need-within-requires
 unfolding few_words most_wide longest_check largest_ceiling
 within-requires c κs =
-    let A = c.before.before.before.before.before.before.before.args in
-    let (f, p) = c.before.before.before.before.before.before.before.requires in
-    let (R, h) = p in
-    let q = check-fits (length A.word.now) A.t.r A.t.words _ f.0.sheet.check R.narrow h in
-    (f, ((wide_fits R, refl), record { rows_v = h; rows_u = h; rows_e = q }))
+    let S = c.before.before.before.before.before.before.before in
+    let A = S.args in
+    let (f, p) = S.requires in
+    let q = check-fits (length A.word.now) A.r (A.c + 1) _ f.check p.1 p.2 in
+    (f, (p.0, wide_fits _ p.1, p.2, p.2, q, refl))
 
 returns : tie.Need-returns
 returns c = c.before.before.before.before.before.within.ensures
 
 pub few-spec : {M : Type 1} → statement M
-few-spec =
-    tie.close (tie.spec (λ c. refl) (λ c. refl) (λ c. refl) within-requires
-    (λ c. c.before.before.before.before.before.within.auto.1.1.1.1.1.1.0) returns)
+few-spec = tie.close (tie.spec (λ c. search rules) (λ c. search rules) (λ c. search rules) within-requires (λ c. search rules) returns)

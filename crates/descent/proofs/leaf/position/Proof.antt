@@ -1,59 +1,40 @@
-use mathlib.Core.Path.{refl, ◌∙◌}
+use mathlib.Core.Path.{◌∙◌}
 use native.Mathlib.Omega.{arith}
-use Rattle.meaning.specs.Limits.{mask_bytes}
 use Rattle.descent.proofs.Leaves.{leaf_done}
 use Rattle.descent.proofs.leaf.position.Statement.{statement}
 use Rattle.descent.proofs.leaf.position.Tie as tie
 
--- once the equation is there, and once the symbol is filled
-abbrev start : tie.After-add-equation → tie.Start
-start c = c.before.before.before.before.before.before.before.before
-
-abbrev added : tie.After-fill-erased → tie.After-add-equation
-added c = c.before.before.before.before.before
-
-add-equation-requires : tie.Need-add-equation-requires
-add-equation-requires c κs =
+hold-requires : tie.Need-hold-requires
+hold-requires c κs =
     let P = c.before.before.before.before.before.before.before.requires in
-    (P.0, P.1.1.1)
+    ((P.0.0, omega arith, P.0.2), (P.1.0, P.1.1.1))
 
-fill-erased-requires : tie.Need-fill-erased-requires
-fill-erased-requires c κs =
-    let P = (start c.before.before.before.before).requires in
-    (P.0, P.1.1.0)
+fill-requires : tie.Need-fill-requires
+fill-requires c κs =
+    let P = c.before.before.before.before.before.before.before.before.before.before.before.before.requires in
+    ((P.0.0, omega arith, P.0.2), (P.1.0, P.1.1.0))
 
 mul-copy : tie.Need-overflow-mul-copy
-mul-copy c =
-    let S = start (added c.before.before.before) in
-    omega (arith, S.pre.1.0, S.good)
-
-add-behind : tie.Need-overflow-add-behind
-unfolding mask_bytes
-add-behind c = omega (arith, (start (added c.before.before.before.before.before.before.before)).requires.0.near)
+mul-copy c = omega arith
 
 same_length : tie.Need-same-length
-same_length c = c.before.before.before.before.before.before.before.fill-erased.auto.1.0
+same_length c = c.before.before.before.before.before.before.before.fill.auto.1.0
 
 same-length-2 : tie.Need-same-length-2
 same-length-2 c = c.before.before.copy.auto.0
 
 same-length-3 : tie.Need-same-length-3
-same-length-3 c = (added c.before.before.before.before.before.before.before).add-equation.auto.1.1.1.0
+same-length-3 c = c.before.before.before.before.before.before.before.before.before.before.before.before.hold.auto.1.1.1.0
 
 returns : tie.Need-returns
 returns c =
-    let F = c.before.before.before.before.before.before.before in
-    let H = added F in
-    let A = (start H).args in
-    let P = (start H).pre in
-    let C = c.before.before.copy in (
-      refl,
-      leaf_done A.width.coeffs A.width.words A.walk.at A.walk.next A.walk.eqs A.sheet.now A.vals.now A.us.now A.eqs.now
-          P.0.row_v P.1.0 A.mark F.fill-erased.new.1.0 C.new.0 H.add-equation.last.1.1.1.0 F.fill-erased.result
-          H.add-equation.result (F.fill-erased.auto.1.0 ∙ P.0.row_v) F.fill-erased.ensures H.add-equation.ensures C.ensures,
-    )
+    let A = c.before.before.before.before.before.before.before.before.before.before.before.before.before.before.before.before.before.before.before.before.args in
+    let P = c.before.before.before.before.before.before.before.before.before.before.before.before.before.before.before.before.before.before.before.before.requires in
+    let H = c.before.before.before.before.before.before.before.before.before.before.before.before.hold in
+    let F = c.before.before.before.before.before.before.before.fill in
+    let C = c.before.before.copy in
+    leaf_done A.c A.w A.at A.t.next A.t.eqs A.sheet.now A.vals.now A.us.now A.eqs.now P.0.0 P.0.1 A.mark
+    F.new.1.0 C.new.0 H.new.1.1.1.0 F.result H.result (F.auto.1.0 ∙ P.0.0) F.ensures H.ensures C.ensures
 
 pub position-spec : {M : Type 1} → statement M
-position-spec =
-    tie.close
-    (tie.spec add-equation-requires fill-erased-requires mul-copy (λ c κs. tt) add-behind same_length same-length-2 same-length-3 returns)
+position-spec = tie.close (tie.spec hold-requires fill-requires mul-copy (λ c κs. tt) same_length same-length-2 same-length-3 returns)

@@ -36,8 +36,7 @@ loop-again c =
     let S = c.before.before.before.before.before.before in
     let L = c.before.before.before.loop in
     let C = c.mark_of in
-    let o = other_default S.args.word.now L.j c.before.before.loop-test.true in
-    (omega arith, simp length-set L.invariant.1, mark_turn o C.ensures (omega arith) L.invariant.2)
+    (omega arith, simp length-set L.invariant.1, mark_turn (other_default S.args.word.now L.j c.before.before.loop-test.true) C.ensures (omega arith) L.invariant.2)
 
 same_length : tie.Need-same-length invariant-loop decreases-loop
 same_length c = c.before.loop.invariant.1

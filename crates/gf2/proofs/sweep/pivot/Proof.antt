@@ -57,11 +57,9 @@ slice-read-j c =
 
 sub-j-2 : tie.Need-overflow-sub-j-2
 sub-j-2 c =
-    let start = c.before.before.before.before.before.before in
-    let A = start.args in
+    let A = c.before.before.before.before.before.before.args in
     let k = c.before.before.words.result in
-    last-zeros A.eqs.now (A.i * A.w) A.c A.w start.requires.3 k (sym c.before.before.words.ensures)
-    c.before.if1.false (c.slice-known3.given (A.i * A.w + k - 1)).fits
+    last-zeros A.eqs.now (A.i * A.w) A.c A.w c.before.before.before.before.before.before.requires.3 k (sym c.before.before.words.ensures) c.before.if1.false (c.slice-known3.given (A.i * A.w + k - 1)).fits
 
 sweep-within-requires : tie.Need-sweep-within-requires
 sweep-within-requires c κs =

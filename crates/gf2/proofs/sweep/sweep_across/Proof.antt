@@ -22,10 +22,7 @@ abbrev decreases-loop : tie.decreases-loop
 decreases-loop dst₀ n src from w k j a₀ left₀ dst a left = left
 
 -- by which arm, in the lists' terms
-turned : (c : tie.Joined1 invariant-loop decreases-loop)
-    → (let A = c.before.before.before.before.before.before.args in
-    let L = c.before.before.before.loop in
-    Turn L.dst c.if1.dst (take A.w (drop A.from A.src.now)) L.a A.w A.k A.j)
+turned : (c : tie.Joined1 invariant-loop decreases-loop) → Turn c.before.before.before.loop.dst c.if1.dst (take c.before.before.before.before.before.before.args.w (drop c.before.before.before.before.before.before.args.from c.before.before.before.before.before.before.args.src.now)) c.before.before.before.loop.a c.before.before.before.before.before.before.args.w c.before.before.before.before.before.before.args.k c.before.before.before.before.before.before.args.j
 turned c =
     let A = c.before.before.before.before.before.before.args in
     let L = c.before.before.before.loop in

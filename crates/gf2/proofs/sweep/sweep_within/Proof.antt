@@ -16,17 +16,13 @@ use Rattle.gf2.proofs.sweep.sweep_within.Tie as tie
 abbrev invariant-loop : tie.invariant-loop
 invariant-loop v₀ at n from w k j a₀ left₀ v a left =
     (left ≤ n) × (a + left * w ≤ length v) × (length v ≡ length v₀) × ((a + left * w ≤ from) ⊎ (from + w ≤ a))
-    × (take w (drop from v) ≡ take w (drop from v₀))
-    × (togo w left (clear_at k j (take w (drop from v₀))) v a ≡ togo w n (clear_at k j (take w (drop from v₀))) v₀ at)
+    × (take w (drop from v) ≡ take w (drop from v₀)) × (togo w left (clear_at k j (take w (drop from v₀))) v a ≡ togo w n (clear_at k j (take w (drop from v₀))) v₀ at)
 
 abbrev decreases-loop : tie.decreases-loop
 decreases-loop v₀ at n from w k j a₀ left₀ v a left = left
 
 -- by which arm, in the lists' terms
-turned : (c : tie.Joined1 invariant-loop decreases-loop)
-    → (let A = c.before.before.before.before.before.args in
-    let L = c.before.before.before.loop in
-    Turn L.v c.if1.v (take A.w (drop A.from A.v.now)) L.a A.w A.k A.j)
+turned : (c : tie.Joined1 invariant-loop decreases-loop) → Turn c.before.before.before.loop.v c.if1.v (take c.before.before.before.before.before.args.w (drop c.before.before.before.before.before.args.from c.before.before.before.before.before.args.v.now)) c.before.before.before.loop.a c.before.before.before.before.before.args.w c.before.before.before.before.before.args.k c.before.before.before.before.before.args.j
 turned c =
     let A = c.before.before.before.before.before.args in
     let L = c.before.before.before.loop in
@@ -78,8 +74,7 @@ loop-again c =
       omega arith,
       n ∙ L.invariant.2,
       apart_next L.a L.left A.w A.from (omega arith) L.invariant.3,
-      turn_apart L.v c.if1.v e L.a A.w A.k A.j A.from (omega arith) m
-          (apart-first L.a L.left A.w A.from (omega arith) L.invariant.3) (turned c) ∙ L.invariant.4,
+      turn_apart L.v c.if1.v e L.a A.w A.k A.j A.from (omega arith) m (apart-first L.a L.left A.w A.from (omega arith) L.invariant.3) (turned c) ∙ L.invariant.4,
       turn_togo L.v c.if1.v e L.a A.w A.k A.j L.left (omega arith) (omega arith) (omega arith) m (turned c) ∙ L.invariant.5,
     )
 

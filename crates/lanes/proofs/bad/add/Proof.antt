@@ -27,9 +27,7 @@ mul-bad-2 : tie.Need-overflow-mul-bad-2 invariant-loop decreases-loop
 mul-bad-2 c = omega arith
 
 slice-write-bad : tie.Need-slice-write-bad invariant-loop decreases-loop
-slice-write-bad c =
-    let s = c.before.before.before.loop.invariant.size in
-    omega (arith, c.before.before.loop-test.true, c.before.before.before.before.before.before.requires.0)
+slice-write-bad c = let s = c.before.before.before.loop.invariant.size in omega (arith, c.before.before.loop-test.true, c.before.before.before.before.before.before.requires.0)
 
 add-k : tie.Need-overflow-add-k invariant-loop decreases-loop
 add-k c = omega arith
@@ -38,9 +36,7 @@ loop-less : tie.Need-loop-smaller invariant-loop decreases-loop
 loop-less c = omega arith
 
 loop-again : tie.Need-loop-preserved invariant-loop decreases-loop
-loop-again c =
-    add_next c.before.before.before.loop.invariant c.before.before.before.before.before.before.requires.0 c.before.before.loop-test.true _
-    c.word.ensures
+loop-again c = add_next c.before.before.before.loop.invariant c.before.before.before.before.before.before.requires.0 c.before.before.loop-test.true _ c.word.ensures
 
 same_length : tie.Need-same-length invariant-loop decreases-loop
 same_length c = c.before.loop.invariant.size

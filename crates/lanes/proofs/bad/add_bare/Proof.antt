@@ -7,9 +7,7 @@ use Rattle.lanes.proofs.bad.add_bare.Statement.{statement}
 use Rattle.lanes.proofs.bad.add_bare.Tie as tie
 
 returns : tie.Need-returns
-returns c =
-    bare-added _ _ _ _ (sym c.before.before.before.before.before.led.ensures ∙ not-true _ c.before.before.before.before.if1.true)
-    c.before.before.add.ensures
+returns c = bare-added _ _ _ _ (sym c.before.before.before.before.before.led.ensures ∙ not-true _ c.before.before.before.before.if1.true) c.before.before.add.ensures
 
 returns-2 : tie.Need-returns-2
 returns-2 c = bare-led _ _ _ (sym c.before.led.ensures ∙ not-false _ c.if1.false)

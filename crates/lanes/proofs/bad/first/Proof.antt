@@ -13,9 +13,7 @@ none-requires : tie.Need-none-requires
 none-requires c κs = c.before.before.collect.auto.1.1.1.0
 
 returns : tie.Need-returns
-returns c =
-    none_first _ _ _ c.before.before.before.before.collect.ensures c.before.before.before.before.collect.auto.1.1.1.0
-    (sym c.before.none.ensures ∙ c.if1.true)
+returns c = none_first _ _ _ c.before.before.before.before.collect.ensures c.before.before.before.before.collect.auto.1.1.1.0 (sym c.before.none.ensures ∙ c.if1.true)
 
 seek-requires : tie.Need-seek-requires
 seek-requires c κs = c.before.before.before.before.before.collect.auto.1.1.1.0

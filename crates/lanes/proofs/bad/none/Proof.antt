@@ -21,9 +21,7 @@ shared-slice-read-if1 : tie.Need-shared-slice-read-if1 invariant-loop decreases-
 shared-slice-read-if1 c = search rules
 
 returns : tie.Need-returns invariant-loop decreases-loop
-returns c =
-    none_stops c.before.before.before.loop.invariant c.if1.true (omega
-    (arith, c.before.before.loop-test.true, c.before.before.before.before.requires))
+returns c = none_stops c.before.before.before.loop.invariant c.if1.true (omega (arith, c.before.before.loop-test.true, c.before.before.before.before.requires))
 
 add-k : tie.Need-overflow-add-k invariant-loop decreases-loop
 add-k c = search rules
@@ -32,9 +30,7 @@ loop-less : tie.Need-loop-smaller invariant-loop decreases-loop
 loop-less c = search rules
 
 loop-again : tie.Need-loop-preserved invariant-loop decreases-loop
-loop-again c =
-    none-next c.before.before.before.loop.invariant c.if1.false c.before.before.loop-test.true
-    (omega (arith, c.before.before.loop-test.true, c.before.before.before.before.requires))
+loop-again c = none-next c.before.before.before.loop.invariant c.if1.false c.before.before.loop-test.true (omega (arith, c.before.before.loop-test.true, c.before.before.before.before.requires))
 
 returns-2 : tie.Need-returns-2 invariant-loop decreases-loop
 returns-2 c = none_end c.before.loop.invariant (omega (arith, c.loop-test.false, c.before.before.requires))

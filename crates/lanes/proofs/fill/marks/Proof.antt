@@ -20,27 +20,23 @@ decreases-loop vals c w out₀ j₀ out j = length out₀ - j
 loop-holds : tie.Need-loop-init invariant-loop decreases-loop
 loop-holds c = filling_none _ _
 
-part-mark-end : tie.Need-slice-bounds-mark-end invariant-loop decreases-loop
-part-mark-end c =
-    let s = c.before.loop.invariant.size in
-    let A = c.before.before.before.before.args in
-    row_in A.vals.now _ A.w c.before.loop.j c.before.before.before.before.requires.0
-    (omega (arith, c.loop-test.true, c.before.before.before.before.requires.1))
-
 mul_at : tie.Need-overflow-mul-at invariant-loop decreases-loop
-mul_at c = omega (arith, part-mark-end c)
+mul_at c = let s = c.before.loop.invariant.size in let A = c.before.before.before.before.args in omega (arith, row_in A.vals.now _ A.w c.before.loop.j c.before.before.before.before.requires.0 (omega (arith, c.loop-test.true, c.before.before.before.before.requires.1)))
 
 add-mark : tie.Need-overflow-add-mark invariant-loop decreases-loop
-add-mark c = omega (arith, part-mark-end c)
+add-mark c = let s = c.before.loop.invariant.size in let A = c.before.before.before.before.args in omega (arith, row_in A.vals.now _ A.w c.before.loop.j c.before.before.before.before.requires.0 (omega (arith, c.loop-test.true, c.before.before.before.before.requires.1)))
 
 mul-mark : tie.Need-overflow-mul-mark invariant-loop decreases-loop
-mul-mark c = omega (arith, part-mark-end c)
+mul-mark c = let s = c.before.loop.invariant.size in let A = c.before.before.before.before.args in omega (arith, row_in A.vals.now _ A.w c.before.loop.j c.before.before.before.before.requires.0 (omega (arith, c.loop-test.true, c.before.before.before.before.requires.1)))
 
 sub-mark : tie.Need-overflow-sub-mark invariant-loop decreases-loop
 sub-mark c = omega arith
 
 part-mark-start : tie.Need-slice-bounds-mark-start invariant-loop decreases-loop
 part-mark-start c = omega arith
+
+part-mark-end : tie.Need-slice-bounds-mark-end invariant-loop decreases-loop
+part-mark-end c = let s = c.before.loop.invariant.size in let A = c.before.before.before.before.args in row_in A.vals.now _ A.w c.before.loop.j c.before.before.before.before.requires.0 (omega (arith, c.loop-test.true, c.before.before.before.before.requires.1))
 
 mark-requires : tie.Need-mark-requires invariant-loop decreases-loop
 mark-requires c κs = search rules
@@ -59,8 +55,7 @@ loop-again c =
     let A = c.before.before.before.before.before.before.args in
     let inv = c.before.before.before.loop.invariant in
     let s = inv.size in
-    filling_next inv _ (omega (arith, c.before.before.loop-test.true))
-    (c.mark.ensures ∙ ap (row_mark A.c) (row_cut A.vals.now A.w c.before.before.before.loop.j))
+    filling_next inv _ (omega (arith, c.before.before.loop-test.true)) (c.mark.ensures ∙ ap (row_mark A.c) (row_cut A.vals.now A.w c.before.before.before.loop.j))
 
 same_length : tie.Need-same-length invariant-loop decreases-loop
 same_length c = c.before.loop.invariant.size

@@ -8,14 +8,10 @@ use Rattle.lanes.proofs.fill.record.Statement.{statement}
 use Rattle.lanes.proofs.fill.record.Tie as tie
 
 returns : tie.Need-returns
-returns c =
-    record_led _ _ _ (sym c.before.before.before.before.before.led.ensures ∙ c.before.before.before.before.if1.true)
-    (c.before.before.blank.ensures ∙ ap (λ (n : ℕ). replicate n 0) c.before.before.before.before.before.before.before.before.requires.1)
+returns c = record_led _ _ _ (sym c.before.before.before.before.before.led.ensures ∙ c.before.before.before.before.if1.true) (c.before.before.blank.ensures ∙ ap (λ (n : ℕ). replicate n 0) c.before.before.before.before.before.before.before.before.requires.1)
 
 returns-2 : tie.Need-returns-2
-returns-2 c =
-    record_bare _ _ _ (sym c.before.before.before.before.before.led.ensures ∙ c.before.before.before.before.if1.false)
-    c.before.before.spell.ensures
+returns-2 c = record_bare _ _ _ (sym c.before.before.before.before.before.led.ensures ∙ c.before.before.before.before.if1.false) c.before.before.spell.ensures
 
 pub record-spec : {M : Type 1} → statement M
 record-spec =

@@ -27,28 +27,26 @@ loop-holds : tie.Need-loop-init invariant-loop decreases-loop
 unfolding flatten
 loop-holds c = (omega arith, refl, refl)
 
-part-record-end : tie.Need-slice-bounds-record-end invariant-loop decreases-loop
-part-record-end c =
-    let A = c.before.before.before.before.args in
-    row_in A.vals.now _ A.w c.before.loop.j c.before.before.before.before.requires.1 c.loop-test.true
-
 mul_at : tie.Need-overflow-mul-at invariant-loop decreases-loop
-mul_at c = omega (arith, part-record-end c)
+mul_at c = let A = c.before.before.before.before.args in omega (arith, row_in A.vals.now _ A.w c.before.loop.j c.before.before.before.before.requires.1 c.loop-test.true)
 
 mul-to : tie.Need-overflow-mul-to invariant-loop decreases-loop
 mul-to c = omega (arith, c.loop-test.true, c.before.before.before.before.requires.2)
 
 add-record : tie.Need-overflow-add-record invariant-loop decreases-loop
-add-record c = omega (arith, part-record-end c)
+add-record c = let A = c.before.before.before.before.args in omega (arith, row_in A.vals.now _ A.w c.before.loop.j c.before.before.before.before.requires.1 c.loop-test.true)
 
 mul-record : tie.Need-overflow-mul-record invariant-loop decreases-loop
-mul-record c = omega (arith, part-record-end c)
+mul-record c = let A = c.before.before.before.before.args in omega (arith, row_in A.vals.now _ A.w c.before.loop.j c.before.before.before.before.requires.1 c.loop-test.true)
 
 sub-record : tie.Need-overflow-sub-record invariant-loop decreases-loop
 sub-record c = omega arith
 
 part-record-start : tie.Need-slice-bounds-record-start invariant-loop decreases-loop
 part-record-start c = omega arith
+
+part-record-end : tie.Need-slice-bounds-record-end invariant-loop decreases-loop
+part-record-end c = let A = c.before.before.before.before.args in row_in A.vals.now _ A.w c.before.loop.j c.before.before.before.before.requires.1 c.loop-test.true
 
 add-record-2 : tie.Need-overflow-add-record-2 invariant-loop decreases-loop
 add-record-2 c = omega (arith, c.before.loop-test.true, c.before.before.before.before.before.requires.2)
@@ -64,16 +62,8 @@ part-record-end-2 c = omega (arith, c.before.loop-test.true, c.before.before.loo
 
 record-requires : tie.Need-record-requires invariant-loop decreases-loop
 record-requires c κs =
-    let A = c.before.before.before.before.before.before.args in (
-      omega (
-        arith,
-        c.before.before.before.before.before.before.requires.0,
-        row-long A.vals.now _ A.w c.before.before.before.loop.j
-            c.before.before.before.before.before.before.requires.1 c.before.before.loop-test.true,
-      ),
-      simp (length-take, length-drop) (omega
-          (arith, c.before.before.loop-test.true, c.before.before.before.loop.invariant.1, c.before.before.before.before.before.before.requires.2)),
-    )
+    let A = c.before.before.before.before.before.before.args in
+    (omega (arith, c.before.before.before.before.before.before.requires.0, row-long A.vals.now _ A.w c.before.before.before.loop.j c.before.before.before.before.before.before.requires.1 c.before.before.loop-test.true), simp (length-take, length-drop) (omega (arith, c.before.before.loop-test.true, c.before.before.before.loop.invariant.1, c.before.before.before.before.before.before.requires.2)))
 
 add-j : tie.Need-overflow-add-j invariant-loop decreases-loop
 add-j c = omega arith
@@ -86,12 +76,10 @@ loop-again c =
     let A = c.before.before.before.before.before.before.before.before.before.args in
     let L = c.before.before.before.before.before.before.loop in
     let R = c.before.before.record in
-    let x : R.new.1.1.0 ≡ row_record A.c (row A.w A.vals.now L.j) = R.ensures
-    ∙ ap (row_record A.c) (row_cut A.vals.now A.w L.j) in (
+    let x : R.new.1.1.0 ≡ row_record A.c (row A.w A.vals.now L.j) = R.ensures ∙ ap (row_record A.c) (row_cut A.vals.now A.w L.j) in (
       omega (arith, c.before.before.before.before.before.loop-test.true),
       c.before.out.given.1 ∙ L.invariant.1,
-      put_record 64 (λ (k : ℕ). row_record A.c (row A.w A.vals.now k)) (λ k. record_long A.c (row A.w A.vals.now k)) A.out.now L.j _
-          _ L.invariant.2 x,
+      put_record 64 (λ (k : ℕ). row_record A.c (row A.w A.vals.now k)) (λ k. record_long A.c (row A.w A.vals.now k)) A.out.now L.j _ _ L.invariant.2 x,
     )
 
 same_length : tie.Need-same-length invariant-loop decreases-loop

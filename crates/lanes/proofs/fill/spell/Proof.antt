@@ -31,9 +31,7 @@ loop-less : tie.Need-loop-smaller invariant-loop decreases-loop
 loop-less c = omega arith
 
 loop-again : tie.Need-loop-preserved invariant-loop decreases-loop
-loop-again c =
-    spell_next c.before.before.before.before.before.before.loop.invariant c.before.before.before.before.before.loop-test.true
-    c.before.before.put.auto.0 c.before.before.before.word.ensures c.before.before.put.ensures
+loop-again c = spell_next c.before.before.before.before.before.before.loop.invariant c.before.before.before.before.before.loop-test.true c.before.before.put.auto.0 c.before.before.before.word.ensures c.before.before.put.ensures
 
 same_length : tie.Need-same-length invariant-loop decreases-loop
 same_length c = c.before.loop.invariant.size ∙ sym c.before.before.before.before.requires.1

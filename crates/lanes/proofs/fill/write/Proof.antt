@@ -29,18 +29,12 @@ part-marks-end : tie.Need-slice-bounds-marks-end
 part-marks-end c = omega (arith, c.before.before.records.auto.1.1.1.0, c.before.before.before.before.before.before.requires.2)
 
 marks-requires : tie.Need-marks-requires
-marks-requires c κs = (
-  c.before.before.before.before.before.before.before.requires.1,
-  simp (length-take, length-drop)
-      (omega (arith, c.before.before.before.records.auto.1.1.1.0, c.before.before.before.before.before.before.before.requires.2)),
-)
+marks-requires c κs = (c.before.before.before.before.before.before.before.requires.1, simp (length-take, length-drop) (omega (arith, c.before.before.before.records.auto.1.1.1.0, c.before.before.before.before.before.before.before.requires.2)))
 
 returns : tie.Need-returns
 returns c =
     let A = c.before.before.before.before.before.before.before.before.before.before.args in
-    repaired-is A.c A.w A.vals.now A.out.now _ _ _ c.before.before.before.before.before.before.records.ensures
-    c.before.before.marks.ensures (marks-requires c.before.before.before
-    c.before.before.before.before.before.before.before.before.before.before.lifetimes).1
+    repaired-is A.c A.w A.vals.now A.out.now _ _ _ c.before.before.before.before.before.before.records.ensures c.before.before.marks.ensures (marks-requires c.before.before.before c.before.before.before.before.before.before.before.before.before.before.lifetimes).1
 
 pub write_spec : {M : Type 1} → statement M
 write_spec =

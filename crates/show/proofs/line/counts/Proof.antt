@@ -8,14 +8,12 @@ use Rattle.show.proofs.line.counts.Tie as tie
 returns : tie.Need-returns
 unfolding verdict
 returns c =
-    let at-put = c.before.before.before.before.before.before.before.before.before.before.before.before.before.before.before.before.before in
-    let start = at-put.before.before.before.before in
-    let p = at-put.put.ensures in
+    let p = c.before.before.before.before.before.before.before.before.before.before.before.before.before.before.before.before.before.put.ensures in
     let q = c.before.before.before.before.before.before.before.before.before.before.before.before.count.ensures in
     let r = c.before.before.before.before.before.before.before.count2.ensures in
     let s = c.before.before.count3.ensures in
     let w = p then q.0 then r.0 then s.0 in
-    (w, omega (arith, p.ends, q.1, r.1, s.1, w.long, start.requires))
+    (w, omega (arith, p.ends, q.1, r.1, s.1, w.long, c.before.before.before.before.before.before.before.before.before.before.before.before.before.before.before.before.before.before.before.before.before.requires))
 
 pub counts-spec : {M : Type 1} → statement M
 counts-spec =

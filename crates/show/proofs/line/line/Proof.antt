@@ -29,15 +29,10 @@ two-requires-5 c κs = omega (arith, c.before.before.before.before.before.before
 
 returns : tie.Need-returns
 returns c =
-    let at-two = c.before.before.before.before.before.before.before.before.before.before.before.before.before in
-    let at-two2 = c.before.before.before.before.before.before.before.before.before.before.before.before in
-    let at-two3 = c.before.before.before.before.before.before.before.before.before.before.before in
-    let at-two4 = c.before.before.before.before.before.before.before.before.before.before in
-    let at-two5 = c.before.before.before.before.before.before.before.before.before in
     let w = c.before.before.before.before.before.before.before.said.ensures in
     let p = c.before.before.put.ensures in
-    let r = at-two.before.before.before.args.answer.now in
-    let q = lined r at-two.two.ensures at-two2.two2.ensures at-two3.two3.ensures at-two4.two4.ensures at-two5.two5.ensures w.0 p in
+    let r = c.before.before.before.before.before.before.before.before.before.before.before.before.before.before.before.before.args.answer.now in
+    let q = lined r c.before.before.before.before.before.before.before.before.before.before.before.before.before.two.ensures c.before.before.before.before.before.before.before.before.before.before.before.before.two2.ensures c.before.before.before.before.before.before.before.before.before.before.before.two3.ensures c.before.before.before.before.before.before.before.before.before.before.two4.ensures c.before.before.before.before.before.before.before.before.before.two5.ensures w.0 p in
     ((within q).0, omega (arith, p.ends, p.long, w.1), (within q).1)
 
 pub line-spec : {M : Type 1} → statement M

@@ -38,44 +38,38 @@ with-number-requires c κs = (omega arith, omega (arith, c.before.before.before.
 returns : tie.Need-returns
 unfolding longest_line plain_of
 returns c =
-    let start = c.before.before.before.before.before.before.before in
     let w = c.before.before.put.ensures in
-    (spelt w (ap plain_of (sym c.before.before.before.before.before.match.keys1)), omega (arith, w.ends, w.long, start.requires))
+    (spelt w (ap plain_of (sym c.before.before.before.before.before.match.keys1)), omega (arith, w.ends, w.long, c.before.before.before.before.before.before.before.requires))
 
 returns-2 : tie.Need-returns-2
 unfolding longest_line plain_of
 returns-2 c =
-    let start = c.before.before.before.before.before.before.before in
     let w = c.before.before.put2.ensures in
-    (spelt w (ap plain_of (sym c.before.before.before.before.before.match.keys2)), omega (arith, w.ends, w.long, start.requires))
+    (spelt w (ap plain_of (sym c.before.before.before.before.before.match.keys2)), omega (arith, w.ends, w.long, c.before.before.before.before.before.before.before.requires))
 
 returns-3 : tie.Need-returns-3
 unfolding longest_line plain_of
 returns-3 c =
-    let start = c.before.before.before.before.before.before.before in
     let w = c.before.before.put3.ensures in
-    (spelt w (ap plain_of (sym c.before.before.before.before.before.match.keys3)), omega (arith, w.ends, w.long, start.requires))
+    (spelt w (ap plain_of (sym c.before.before.before.before.before.match.keys3)), omega (arith, w.ends, w.long, c.before.before.before.before.before.before.before.requires))
 
 returns-4 : tie.Need-returns-4
 unfolding longest_line plain_of
 returns-4 c =
-    let start = c.before.before.before.before.before.before.before in
     let w = c.before.before.put4.ensures in
-    (spelt w (ap plain_of (sym c.before.before.before.before.before.match.keys4)), omega (arith, w.ends, w.long, start.requires))
+    (spelt w (ap plain_of (sym c.before.before.before.before.before.match.keys4)), omega (arith, w.ends, w.long, c.before.before.before.before.before.before.before.requires))
 
 returns-5 : tie.Need-returns-5
 unfolding longest_line plain_of
 returns-5 c =
-    let start = c.before.before.before.before.before.before.before in
     let w = c.before.before.put5.ensures in
-    (spelt w (ap plain_of (sym c.before.before.before.before.before.match.keys5)), omega (arith, w.ends, w.long, start.requires))
+    (spelt w (ap plain_of (sym c.before.before.before.before.before.match.keys5)), omega (arith, w.ends, w.long, c.before.before.before.before.before.before.before.requires))
 
 returns-6 : tie.Need-returns-6
 unfolding longest_line plain_of
 returns-6 c =
-    let start = c.before.before.before.before.before.before.before in
     let w = c.before.before.put6.ensures in
-    (spelt w (ap plain_of (sym c.before.before.before.before.before.match.keys6)), omega (arith, w.ends, w.long, start.requires))
+    (spelt w (ap plain_of (sym c.before.before.before.before.before.match.keys6)), omega (arith, w.ends, w.long, c.before.before.before.before.before.before.before.requires))
 
 returns-7 : tie.Need-returns-7
 unfolding plain_of no_answer

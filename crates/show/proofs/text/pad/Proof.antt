@@ -8,9 +8,7 @@ use Rattle.show.proofs.text.pad.Statement.{statement}
 use Rattle.show.proofs.text.pad.Tie as tie
 
 returns : tie.Need-returns
-returns c =
-    let start = c.before.before.before.before.before.before.before.before in
-    spelt c.before.before.put.ensures (spaces (start.args.width - start.args.k) (omega (arith, start.requires)))
+returns c = spelt c.before.before.put.ensures (spaces (c.before.before.before.before.before.before.before.before.args.width - c.before.before.before.before.before.before.before.before.args.k) (omega (arith, c.before.before.before.before.before.before.before.before.requires)))
 
 returns-2 : tie.Need-returns-2
 returns-2 c =

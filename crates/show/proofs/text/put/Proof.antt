@@ -33,11 +33,8 @@ loop-less c = search rules
 
 loop-again : tie.Need-loop-preserved invariant-loop decreases-loop
 loop-again c =
-    let l = c.before.before.loop in (
-      omega (arith, c.before.loop-test.true),
-      simp length-set l.invariant.1,
-      begun_next _ _ _ _ _ c.before.loop-test.true (omega (arith, c.before.loop-test.true, l.invariant.1, c.before.before.before.requires)) l.invariant.2,
-    )
+    let l = c.before.before.loop in
+    (omega (arith, c.before.loop-test.true), simp length-set l.invariant.1, begun_next _ _ _ _ _ c.before.loop-test.true (omega (arith, c.before.loop-test.true, l.invariant.1, c.before.before.before.requires)) l.invariant.2)
 
 add-result : tie.Need-overflow-add-result invariant-loop decreases-loop
 add-result c = search rules

@@ -9,29 +9,19 @@ use Rattle.show.proofs.text.put_number.Tie as tie
 
 put-requires : tie.Need-put-requires
 put-requires c κs =
-    let start = c.before.before.before.before.before.before.before.before.before.before in
     let d = c.before.before.before.before.before.before.before.decimal in
-    let k = few start.args.n d.result (omega arith) d.ensures.1.0 in
+    let k = few c.before.before.before.before.before.before.before.before.before.before.args.n d.result (omega arith) d.ensures.1.0 in
     let p = c.before.before.before.before.before.pad.ensures in
-    omega (arith, length-replicate {A = ℕ} (start.args.width - d.result) 32, length-take (d.result - 0) d.new.1.0, p.ends, p.long, k, start.requires)
+    omega (arith, length-replicate {A = ℕ} (c.before.before.before.before.before.before.before.before.before.before.args.width - d.result) 32, length-take (d.result - 0) d.new.1.0, p.ends, p.long, k, c.before.before.before.before.before.before.before.before.before.before.requires)
 
 returns : tie.Need-returns
 returns c =
-    let start = c.before.before.before.before.before.before.before.before.before.before.before.before.before in
     let d = c.before.before.before.before.before.before.before.before.before.before.decimal in
-    let k = few start.args.n d.result (omega arith) d.ensures.1.0 in
+    let k = few c.before.before.before.before.before.before.before.before.before.before.before.before.before.args.n d.result (omega arith) d.ensures.1.0 in
     let p = c.before.before.before.before.before.before.before.before.pad.ensures in
     let q = c.before.before.put.ensures in (
-      spelt (p then q) (wide_is start.args.width start.args.n d.result d.new.1.0 d.ensures.0 d.ensures.1.0 d.ensures.1.1),
-      omega (
-        arith,
-        length-replicate {A = ℕ} (start.args.width - d.result) 32,
-        length-take (d.result - 0) d.new.1.0,
-        p.ends,
-        q.ends,
-        k,
-        start.requires,
-      ),
+      spelt (p then q) (wide_is c.before.before.before.before.before.before.before.before.before.before.before.before.before.args.width c.before.before.before.before.before.before.before.before.before.before.before.before.before.args.n d.result d.new.1.0 d.ensures.0 d.ensures.1.0 d.ensures.1.1),
+      omega (arith, length-replicate {A = ℕ} (c.before.before.before.before.before.before.before.before.before.before.before.before.before.args.width - d.result) 32, length-take (d.result - 0) d.new.1.0, p.ends, q.ends, k, c.before.before.before.before.before.before.before.before.before.before.before.before.before.requires),
     )
 
 pub put-number-spec : {M : Type 1} → statement M

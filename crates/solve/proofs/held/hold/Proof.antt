@@ -11,8 +11,7 @@ expect-requires : tie.Need-expect-requires
 expect-requires c κs =
     let call = c.before.before.before.before.before.before in
     let start = call.before.before.before.before.before.before.before in
-    eq-eqb c.before.rank.result c.rank2.result
-    (c.before.rank.ensures ∙ ap (λ (d : Done). rank_of d.out) (call.solve.ensures ∙ start.requires) ∙ sym c.rank2.ensures)
+    eq-eqb c.before.rank.result c.rank2.result (c.before.rank.ensures ∙ ap (λ (d : Done). rank_of d.out) (call.solve.ensures ∙ start.requires) ∙ sym c.rank2.ensures)
 
 expect-requires-2 : tie.Need-expect-requires-2
 expect-requires-2 c κs =

@@ -10,8 +10,7 @@ expect-requires : tie.Need-expect-requires
 expect-requires c κs =
     let call = c.before.before.before.before.before in
     let start = call.before.before.before in
-    eq-eqb c.before.number.result c.number2.result
-    (c.before.number.ensures ∙ ap number_of (call.solvable.ensures ∙ start.requires) ∙ sym c.number2.ensures)
+    eq-eqb c.before.number.result c.number2.result (c.before.number.ensures ∙ ap number_of (call.solvable.ensures ∙ start.requires) ∙ sym c.number2.ensures)
 
 pub judge-spec : {M : Type 1} → statement M
 judge-spec =

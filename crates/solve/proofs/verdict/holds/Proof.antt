@@ -13,8 +13,7 @@ use Rattle.solve.proofs.verdict.holds.Statement.{statement}
 use Rattle.solve.proofs.verdict.holds.Tie as tie
 
 abbrev invariant-loop : tie.invariant-loop
-invariant-loop v n c w a₀ left₀ a left =
-    (left ≤ n) × (a + left * w ≡ length v) × (consistent c (has (64 * c)) (rows w left (drop a v)) ≡ consistent c (has (64 * c)) (rows w n v))
+invariant-loop v n c w a₀ left₀ a left = (left ≤ n) × (a + left * w ≡ length v) × (consistent c (has (64 * c)) (rows w left (drop a v)) ≡ consistent c (has (64 * c)) (rows w n v))
 
 abbrev decreases-loop : tie.decreases-loop
 decreases-loop v n c w a₀ left₀ a left = left
@@ -32,10 +31,7 @@ mul-if2 : tie.Need-overflow-mul-if2 invariant-loop decreases-loop
 mul-if2 c = let p = pred_mul c.before.before.before.loop.left c.before.before.before.before.before.args.w (omega arith) in omega arith
 
 shared-slice-read-if2 : tie.Need-shared-slice-read-if2 invariant-loop decreases-loop
-shared-slice-read-if2 c =
-    let start = c.before.before.before.before.before.before in
-    let p = pred_mul c.before.before.before.before.loop.left start.args.w (omega arith) in
-    omega arith
+shared-slice-read-if2 c = let p = pred_mul c.before.before.before.before.loop.left c.before.before.before.before.before.before.args.w (omega arith) in omega arith
 
 returns : tie.Need-returns invariant-loop decreases-loop
 returns c =
@@ -44,8 +40,7 @@ returns c =
     let L = call.before.before.loop in
     let A = call.before.before.before.before.args in
     let p = pred_mul L.left A.w (omega arith) in
-    sym (row_bad A.v.now L.a A.c A.w L.left (omega arith) (omega arith)
-    (omega arith) (sym call.blank.ensures ∙ test.if1.true) c.if2.true) ∙ L.invariant.2
+    sym (row_bad A.v.now L.a A.c A.w L.left (omega arith) (omega arith) (omega arith) (sym call.blank.ensures ∙ test.if1.true) c.if2.true) ∙ L.invariant.2
 
 add_a : tie.Need-overflow-add-a invariant-loop decreases-loop
 add_a c = let p = pred_mul c.before.before.before.loop.left c.before.before.before.before.before.args.w (omega arith) in omega arith

@@ -42,8 +42,7 @@ returns-3 c =
     let E = call.eliminate in
     let g = told.enum-told2.given in
     let l = test.if1.false in
-    verdict A.c A.w A.eqs.now E.new.0 E.new.1.0 E.result (omega arith)
-    E.ensures g.0.0 g.1 true (sym c.if2.true ∙ c.before.holds.ensures)
+    verdict A.c A.w A.eqs.now E.new.0 E.new.1.0 E.result (omega arith) E.ensures g.0.0 g.1 true (sym c.if2.true ∙ c.before.holds.ensures)
 
 returns-4 : tie.Need-returns-4
 returns-4 c =
@@ -54,8 +53,7 @@ returns-4 c =
     let E = call.eliminate in
     let g = told.enum-told2.given in
     let l = test.if1.false in
-    verdict A.c A.w A.eqs.now E.new.0 E.new.1.0 E.result (omega arith)
-    E.ensures g.0.0 g.1 false (sym c.if2.false ∙ c.before.holds.ensures)
+    verdict A.c A.w A.eqs.now E.new.0 E.new.1.0 E.result (omega arith) E.ensures g.0.0 g.1 false (sym c.if2.false ∙ c.before.holds.ensures)
 
 pub solvable-spec : {M : Type 1} → statement M
 solvable-spec =

@@ -27,12 +27,8 @@ answer-in-requires c κs =
     let at_size = c.before.before.before in
     let at-blank2 = at_size.before in
     let at-blank = at-blank2.before in
-    let start = at-blank.before.before.before.before in (
-      start.requires.0,
-      part_blank _ _ _ at-blank.blank.ensures (low-at at_size) (at_size.size.ensures ∙ positions-all _ start.requires.0),
-      at-blank2.blank2.ensures,
-      start.requires.1,
-    )
+    let start = at-blank.before.before.before.before in
+    (start.requires.0, part_blank _ _ _ at-blank.blank.ensures (low-at at_size) (at_size.size.ensures ∙ positions-all _ start.requires.0), at-blank2.blank2.ensures, start.requires.1)
 
 pub answer-spec : {M : Type 1} → statement M
 answer-spec =

@@ -11,15 +11,13 @@ use Rattle.stream.proofs.record.answer_in.Statement.{statement}
 use Rattle.stream.proofs.record.answer_in.Tie as tie
 
 -- what was found is three parts as long as a word, and no wider than the strips
-found-long : (c : tie.After-size) → (length c.before.before.before.before.decode.new.1.1.1.1.1.0 ≡ 3 * c.size.result)
-    × (c.size.result ≤ strip_width)
+found-long : (c : tie.After-size) → (length c.before.before.before.before.decode.new.1.1.1.1.1.0 ≡ 3 * c.size.result) × (c.size.result ≤ strip_width)
 found-long c =
     let decode = c.before.before.before.before in
     let start = decode.before.before.before.before.before.before.before in
     let A = start.args in
     let e = c.size.ensures ∙ positions-all A.n start.requires.0 in (
-      answered_long A.n A.sheet.now A.r A.ceiling A.word.now A.found.now _ _ decode.decode.ensures start.requires.1
-          ∙ ap (λ (k : ℕ). 3 * k) (sym e),
+      answered_long A.n A.sheet.now A.r A.ceiling A.word.now A.found.now _ _ decode.decode.ensures start.requires.1 ∙ ap (λ (k : ℕ). 3 * k) (sym e),
       word_fits A.n _ start.requires.0 e,
     )
 
@@ -50,8 +48,7 @@ returns c =
     let start = at-decode.before.before.before.before.before.before.before in
     let A = start.args in
     at-put.put.ensures ∙ ap (λ (t : List ℕ). header at-decode.decode.result ++ t) at-lay.lay.ensures
-    ∙ recorded A.n A.sheet.now A.r A.ceiling A.word.now A.found.now _ _ at-decode.decode.ensures
-    start.requires.1 _ (at_size.size.ensures ∙ positions-all A.n start.requires.0)
+    ∙ recorded A.n A.sheet.now A.r A.ceiling A.word.now A.found.now _ _ at-decode.decode.ensures start.requires.1 _ (at_size.size.ensures ∙ positions-all A.n start.requires.0)
 
 pub answer-in-spec : {M : Type 1} → statement M
 answer-in-spec =

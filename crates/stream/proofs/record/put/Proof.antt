@@ -44,8 +44,7 @@ returns c =
     let at_copy = at-copy2.before.before.before.before in
     let at-header = at_copy.before.before.before in
     let start = at-header.before.before.before in
-    put_whole at-header.header.result start.args.strips.now start.args.out.now _ head_bytes (header-long-is (at-header))
-    (omega (arith, start.requires.0, start.requires.1)) _ at_copy.copy.ensures.1 at-copy2.copy2.ensures.1
+    put_whole at-header.header.result start.args.strips.now start.args.out.now _ head_bytes (header-long-is (at-header)) (omega (arith, start.requires.0, start.requires.1)) _ at_copy.copy.ensures.1 at-copy2.copy2.ensures.1
     ∙ ap (λ (t : List ℕ). t ++ start.args.strips.now) at-header.header.ensures
 
 pub put_spec : {M : Type 1} → statement M

@@ -35,22 +35,13 @@ loop-less : tie.Need-loop-smaller invariant-loop decreases-loop
 loop-less c = let s = c.before.before.before.loop.invariant.size in omega arith
 
 loop-again : tie.Need-loop-preserved invariant-loop decreases-loop
-loop-again c =
-    filling_next c.before.before.before.loop.invariant _ (omega (
-      arith,
-      c.before.before.loop-test.true,
-      c.before.before.before.before.before.before.requires,
-    )) c.symbol.ensures
+loop-again c = filling_next c.before.before.before.loop.invariant _ (omega (arith, c.before.before.loop-test.true, c.before.before.before.before.before.before.requires)) c.symbol.ensures
 
 same_length : tie.Need-same-length invariant-loop decreases-loop
 same_length c = c.before.loop.invariant.size
 
 returns : tie.Need-returns invariant-loop decreases-loop
-returns c =
-    let inv = c.before.loop.invariant in
-    lost-is c.before.before.before.before.args.lost.now _ (inv.size ∙ c.before.before.before.before.requires)
-    (filling_all inv (omega (arith, c.loop-test.false, c.before.before.before.before.requires))
-    ∙ ap (λ (n : ℕ). tab n (λ (k : ℕ). lost_sym (get_or c.before.before.before.before.args.lost.now k 0))) (sym inv.size))
+returns c = let inv = c.before.loop.invariant in lost-is c.before.before.before.before.args.lost.now _ (inv.size ∙ c.before.before.before.before.requires) (filling_all inv (omega (arith, c.loop-test.false, c.before.before.before.before.requires)) ∙ ap (λ (n : ℕ). tab n (λ (k : ℕ). lost_sym (get_or c.before.before.before.before.args.lost.now k 0))) (sym inv.size))
 
 pub erase-spec : {M : Type 1} → statement M
 erase-spec =

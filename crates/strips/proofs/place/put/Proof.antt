@@ -41,11 +41,8 @@ loop-less c = omega arith
 
 loop-again : tie.Need-loop-preserved invariant-loop decreases-loop
 loop-again c =
-    let h = c.before.loop-test.true in (
-      omega arith,
-      put_turn c.before.before.loop.invariant.1 h c.before.before.before.before.before.requires.0
-          (eight_there _ _ _ (omega (arith, h, c.before.before.before.before.before.requires.1)) c.eight.ensures),
-    )
+    let h = c.before.loop-test.true in
+    (omega arith, put_turn c.before.before.loop.invariant.1 h c.before.before.before.before.before.requires.0 (eight_there _ _ _ (omega (arith, h, c.before.before.before.before.before.requires.1)) c.eight.ensures))
 
 same_length : tie.Need-same-length invariant-loop decreases-loop
 same_length c = c.before.loop.invariant.1.size

@@ -1,22 +1,22 @@
-use mathlib.Core.Path.{refl}
-use lib.ListN.{length}
 use Rattle.strips.specs.Rooms.{few_words}
 use Rattle.strips.proofs.Solved.{rows_fewer}
+use Prim.Native.Nat.{◌+◌}
+use lib.ListN.{length}
+use borrow.Author.Rules.{rules}
 use Rattle.strips.proofs.rooms.few.Statement.{statement}
 use Rattle.strips.proofs.rooms.few.Tie as tie
 
 within-requires : tie.Need-within-requires
 unfolding few_words
 within-requires c κs =
-    let A = c.before.before.before.before.before.before.before.before.args in
-    let (f, p) = c.before.before.before.before.before.before.before.before.requires in
-    let h = rows_fewer (length A.word.now) A.t.r A.t.words _ p.1 in
-    (f, (p.0, record { rows_v = h; rows_u = h; rows_e = p.1 }))
+    let S = c.before.before.before.before.before.before.before.before in
+    let A = S.args in
+    let (f, p) = S.requires in
+    let h = rows_fewer (length A.word.now) A.r (A.c + 9) _ p.2 in
+    (f, (p.0, p.1, h, h, p.2))
 
 returns : tie.Need-returns
 returns c = c.before.before.before.before.before.within.ensures
 
 pub few-spec : {M : Type 1} → statement M
-few-spec =
-    tie.close (tie.spec (λ c. refl) (λ c. refl) (λ c. refl) within-requires
-    (λ c. c.before.before.before.before.before.within.auto.1.1.1.1.1.1.1.0) returns)
+few-spec = tie.close (tie.spec (λ c. search rules) (λ c. search rules) (λ c. search rules) within-requires (λ c. search rules) returns)

@@ -29,19 +29,13 @@ loop-less : tie.Need-loop-smaller invariant-loop decreases-loop
 loop-less c = search rules
 
 loop-again : tie.Need-loop-preserved invariant-loop decreases-loop
-loop-again c = (
-  omega (arith, c.before.loop-test.true),
-  sum-next c.before.before.before.before.args.c c.before.before.before.before.args.x.now
-      c.before.before.loop.sum c.before.before.loop.k c.before.loop-test.true c.before.before.loop.invariant.1,
-)
+loop-again c = (omega (arith, c.before.loop-test.true), sum-next c.before.before.before.before.args.c c.before.before.before.before.args.x.now c.before.before.loop.sum c.before.before.loop.k c.before.loop-test.true c.before.before.loop.invariant.1)
 
 parity-requires : tie.Need-parity-requires invariant-loop decreases-loop
 parity-requires c κs = search rules
 
 returns : tie.Need-returns invariant-loop decreases-loop
-returns c =
-    sum-all c.before.before.before.before.args.c c.before.before.before.before.args.x.now c.before.before.loop.sum
-    c.before.before.loop.k _ c.before.before.loop.invariant.0 c.before.loop-test.false c.before.before.loop.invariant.1 c.parity.ensures
+returns c = sum-all c.before.before.before.before.args.c c.before.before.before.before.args.x.now c.before.before.loop.sum c.before.before.loop.k _ c.before.before.loop.invariant.0 c.before.loop-test.false c.before.before.loop.invariant.1 c.parity.ensures
 
 pub odd-spec : {M : Type 1} → statement M
 odd-spec =

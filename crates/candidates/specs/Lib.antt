@@ -1,2 +1,0 @@
--- Sending: which bytes the program writes, and how many.
-pub mod Sending

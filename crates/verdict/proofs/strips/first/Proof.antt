@@ -1,0 +1,85 @@
+use mathlib.Core.Path.{ap, ◌∙◌}
+use Prim.Native.Nat.{◌-◌}
+use native.Mathlib.Omega.{arith}
+use lib.ListN.{length}
+use Rattle.bits.specs.Rows.{row}
+use Rattle.verdict.specs.OffRows.{row_first}
+use Rattle.verdict.specs.Words.{first_words}
+use Rattle.verdict.proofs.Cutting.{row_in, row-long, row_cut}
+use Rattle.bits.proofs.Filling.{Filling, filling_none, filling_next, filling_all}
+use Rattle.verdict.proofs.strips.first.Statement.{statement}
+use Rattle.verdict.proofs.strips.first.Tie as tie
+
+abbrev invariant-loop : tie.invariant-loop
+invariant-loop vals c w out₀ j₀ out j = Filling (λ k. row_first c (row w vals k)) (length out₀) out j
+
+abbrev decreases-loop : tie.decreases-loop
+decreases-loop vals c w out₀ j₀ out j = length out₀ - j
+
+loop-holds : tie.Need-loop-init invariant-loop decreases-loop
+loop-holds c = filling_none _ _
+
+mul_at : tie.Need-overflow-mul-at invariant-loop decreases-loop
+mul_at c = let s = c.before.loop.invariant.size in omega (arith, row_in c.before.before.before.before.args.vals.now _ c.before.before.before.before.args.w c.before.loop.j c.before.before.before.before.requires.1 (omega (arith, c.loop-test.true, c.before.before.before.before.requires.2)))
+
+add-first : tie.Need-overflow-add-first invariant-loop decreases-loop
+add-first c = let s = c.before.loop.invariant.size in omega (arith, row_in c.before.before.before.before.args.vals.now _ c.before.before.before.before.args.w c.before.loop.j c.before.before.before.before.requires.1 (omega (arith, c.loop-test.true, c.before.before.before.before.requires.2)))
+
+mul-first : tie.Need-overflow-mul-first invariant-loop decreases-loop
+mul-first c = let s = c.before.loop.invariant.size in omega (arith, row_in c.before.before.before.before.args.vals.now _ c.before.before.before.before.args.w c.before.loop.j c.before.before.before.before.requires.1 (omega (arith, c.loop-test.true, c.before.before.before.before.requires.2)))
+
+sub-first : tie.Need-overflow-sub-first invariant-loop decreases-loop
+sub-first c = omega arith
+
+part-first-start : tie.Need-slice-bounds-first-start invariant-loop decreases-loop
+part-first-start c = omega arith
+
+part-first-end : tie.Need-slice-bounds-first-end invariant-loop decreases-loop
+part-first-end c = let s = c.before.loop.invariant.size in row_in c.before.before.before.before.args.vals.now _ c.before.before.before.before.args.w c.before.loop.j c.before.before.before.before.requires.1 (omega (arith, c.loop-test.true, c.before.before.before.before.requires.2))
+
+first-requires : tie.Need-first-requires invariant-loop decreases-loop
+first-requires c κs = let s = c.before.before.loop.invariant.size in omega (arith, c.before.before.before.before.before.requires.0, row-long c.before.before.before.before.before.args.vals.now _ c.before.before.before.before.before.args.w c.before.before.loop.j c.before.before.before.before.before.requires.1 (omega (arith, c.before.loop-test.true, c.before.before.before.before.before.requires.2)))
+
+slice-write-out : tie.Need-slice-write-out invariant-loop decreases-loop
+slice-write-out c = c.before.before.loop-test.true
+
+add-j : tie.Need-overflow-add-j invariant-loop decreases-loop
+add-j c = omega arith
+
+loop-less : tie.Need-loop-smaller invariant-loop decreases-loop
+loop-less c = let s = c.before.before.before.loop.invariant.size in omega arith
+
+loop-again : tie.Need-loop-preserved invariant-loop decreases-loop
+loop-again c =
+    let inv = c.before.before.before.loop.invariant in
+    let s = inv.size in
+    let A = c.before.before.before.before.before.before.args in
+    filling_next inv _ (omega (arith, c.before.before.loop-test.true)) (c.first.ensures ∙ ap (row_first A.c) (row_cut A.vals.now A.w c.before.before.before.loop.j))
+
+same_length : tie.Need-same-length invariant-loop decreases-loop
+same_length c = c.before.loop.invariant.size
+
+returns : tie.Need-returns invariant-loop decreases-loop
+unfolding first_words
+returns c = let inv = c.before.loop.invariant in let s = inv.size in filling_all inv (omega (arith, c.loop-test.false))
+
+pub first_spec : {M : Type 1} → statement M
+first_spec =
+    tie.close
+    (tie.spec
+    invariant-loop
+    decreases-loop
+    loop-holds
+    mul_at
+    add-first
+    mul-first
+    sub-first
+    part-first-start
+    part-first-end
+    first-requires
+    slice-write-out
+    add-j
+    loop-less
+    loop-again
+    same_length
+    returns)
