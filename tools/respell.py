@@ -124,7 +124,7 @@ def main():
                 names[n] = s
         text = read(f)
         write(f, text, turned(text, names, of_function(f)))
-    camel = {n: s for n, s in table.items() if "-" not in n}
+    camel = {n: s for n, s in table.items() if "-" not in n and re.search(r"[A-Z]", n)}
     for f in glob.glob("crates/*/src/**/*.rt", recursive=True):
         text = read(f)
         write(f, text, turned(text, camel))

@@ -56,7 +56,7 @@ pub fn counted(whole: bool, n: usize) -> usize
 }
 
 // Whether to go on after a run: its records were written, and it was full.
-pub fn goes_on_lem(written: bool, got: usize, len: usize) -> bool
+pub fn goes_on(written: bool, got: usize, len: usize) -> bool
     ensures { result ≡ goes_on written got len }
 {
     written && got == len
