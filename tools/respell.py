@@ -36,7 +36,7 @@ def snake(word):
 
 def main():
     files = sorted(glob.glob("crates/*/specs/**/*.antt", recursive=True) + glob.glob("crates/*/proofs/**/*.antt", recursive=True))
-    of_function = lambda f: f.endswith(("/Proof.antt", "/Answers.antt", "/Invariants.antt"))
+    of_function = lambda f: re.search(r"/proofs/.+/(Proof|Answers|Invariants)\.antt$", f)
     own, definitions, fields, library, local = collections.Counter(), set(), set(), set(), {}
     for f in files:
         text = read(f)

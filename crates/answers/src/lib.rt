@@ -1,6 +1,6 @@
 // What an answer says: its five numbers, the start of its record, and whether a call can go on. And the pieces of an input.
 ghost use Rattle.std.specs.Prelude.{◌≡◌};
-ghost use Rattle.meaning.specs.Answers.{numbersOf, isDone};
+ghost use Rattle.meaning.specs.Answers.{numbers_of, is_done};
 ghost use Rattle.meaning.specs.Stream.{header};
 
 pub mod pieces;
@@ -9,7 +9,7 @@ use meaning::{Answer, limits};
 
 // The five numbers of an answer: code, place, unknowns g, equations m, dimension d.
 pub fn numbers(a: Answer) -> [usize; 5]
-    ensures { result ≡ numbersOf a }
+    ensures { result ≡ numbers_of a }
 {
     match a {
         Answer::Done => [0, 0, 0, 0, 0],
@@ -56,7 +56,7 @@ pub fn header(a: Answer) -> [u8; limits::HEAD]
 
 // Whether an answer is Done, so that a call can go on.
 pub fn is_done(a: Answer) -> bool
-    ensures { result ≡ isDone a }
+    ensures { result ≡ is_done a }
 {
     match a {
         Answer::Done => true,

@@ -11,7 +11,7 @@ use lib.Dec.{eqb, leb, ltb}
 use borrow.Author.Tests.{ltb-true, leb-true, leb-false, eqb-true, lt-ltb, le-ltb, le-leb, lt-leb, not-true}
 use Rattle.bits.proofs.Tests.{and_l, and_r}
 use Rattle.meaning.specs.Limits.{largest_n}
-use Rattle.meaning.specs.Answers.{checkLength}
+use Rattle.meaning.specs.Answers.{check_length}
 use Rattle.sheet.specs.Shapes.{positions, recorded}
 use Rattle.sheet.proofs.Shapes.{recorded-true, positions-all, check-length-most}
 use Rattle.descent.specs.Descending.{widest}
@@ -61,15 +61,15 @@ module _ (n s r c w u m e : ℕ) {t : Bool} where
   unfolding check_fits
   fits-recorded p q = rw (sym p ∙ not-true t q)
 
-  pub fits-length : recorded n s ≡ true → t ≡ checkLength r → not t ≡ true → check_fits n s r c w u m e ≡ false
+  pub fits-length : recorded n s ≡ true → t ≡ check_length r → not t ≡ true → check_fits n s r c w u m e ≡ false
   unfolding check_fits
   fits-length h p q = rw (h, sym p ∙ not-true t q)
 
-  pub fits-spaced : recorded n s ≡ true → checkLength r ≡ true → t ≡ spaced r c w m e → not t ≡ true → check_fits n s r c w u m e ≡ false
+  pub fits-spaced : recorded n s ≡ true → check_length r ≡ true → t ≡ spaced r c w m e → not t ≡ true → check_fits n s r c w u m e ≡ false
   unfolding check_fits
   fits-spaced h k p q = rw (h, k, sym p ∙ not-true t q)
 
-pub fits-rows : (n s r c w u m e size : ℕ) → recorded n s ≡ true → checkLength r ≡ true → spaced r c w m e ≡ true → size ≡ positions n → check_fits n s r c w u m e ≡ eqb u (size * w)
+pub fits-rows : (n s r c w u m e size : ℕ) → recorded n s ≡ true → check_length r ≡ true → spaced r c w m e ≡ true → size ≡ positions n → check_fits n s r c w u m e ≡ eqb u (size * w)
 unfolding check_fits
 fits-rows n s r c w u m e size h k l q = rw (h, k, l, q, positions-all n (recorded-true n s h).0)
 
@@ -93,7 +93,7 @@ pub ready : (n s r c w u m e : ℕ) → check_fits n s r c w u m e ≡ true → 
 unfolding check_fits
 ready n s r c w u m e h =
     let k = and_r (recorded n s) _ h in
-    let l = and_r (checkLength r) _ k in
+    let l = and_r (check_length r) _ k in
     let (a, _) = recorded-true n s (and_l _ _ h) in
     let (x, y, z) = spaced-true r c w m e (and_l _ _ l) in
     record {

@@ -8,7 +8,7 @@ use mathlib.Core.List.{List, ◌++◌, flatten}
 use Rattle.bits.specs.Vectors.{pick}
 use Rattle.bits.specs.Rows.{Row, rows}
 use Rattle.meaning.specs.Sheet.{rules}
-use Rattle.meaning.specs.Answers.{checkLength}
+use Rattle.meaning.specs.Answers.{check_length}
 use Rattle.sheet.specs.Shapes.{recorded}
 use Rattle.model.specs.Model.{checks}
 use Rattle.model.specs.RowValues.{row_values}
@@ -21,7 +21,7 @@ unfoldable pub spaced : ℕ → ℕ → ℕ → ℕ → ℕ → Bool
 spaced r c w m eqs = leb w widest && (ltb c w && leb ((m + r) * w) eqs)
 
 unfoldable pub check_fits : ℕ → ℕ → ℕ → ℕ → ℕ → ℕ → ℕ → ℕ → Bool
-check_fits n sheet r c w us m eqs = recorded n sheet && (checkLength r && (spaced r c w m eqs && eqb us (2 ^ n * w)))
+check_fits n sheet r c w us m eqs = recorded n sheet && (check_length r && (spaced r c w m eqs && eqb us (2 ^ n * w)))
 
 -- ---- the promise
 

@@ -15,7 +15,7 @@ use Rattle.meaning.specs.Sheet.{Rule, free, frozen, rule_at, rules, frees, early
 use Rattle.meaning.specs.Check.{free_bits, keeps}
 use Rattle.meaning.specs.Codewords.{payload_of}
 use Rattle.meaning.specs.Payload.{encoded}
-use Rattle.meaning.specs.Answers.{isDone, isOne, refuses, fault, sheetRefusals, wordRefusals, callRefusals, encodeRefusals, readRefusals, leaving, writing, encoding, readingBack}
+use Rattle.meaning.specs.Answers.{is_done, is_one, refuses, fault, sheet_refusals, word_refusals, call_refusals, encode_refusals, read_refusals, leaving, writing, encoding, reading_back}
 use Rattle.meaning.specs.declared.Answer.{Answer}
 use Rattle.meaning.specs.declared.Answer.TheVariants.{Done, Inconsistent}
 use Rattle.meaning.proofs.Refusals.{tried_done, tried_all, none_append}
@@ -38,15 +38,15 @@ frees_le (frozen c m ∷ ks) = omega (arith, frees_le ks)
 -- ---- the fault of form, by N and K as the code has them
 
 module _ (n : ℕ) (s : List ℕ) (r : ℕ) (w : List ℕ) (room k : ℕ) (ek : k ≡ frees (tab (length s / record_bytes) (rule_at s))) (m : ℕ) (em : m ≡ k - r) (a : Answer) where
-  payload_is : refuses (sheetRefusals n s r) ≡ false → m ≡ frees (rules n s) - r
+  payload_is : refuses (sheet_refusals n s r) ≡ false → m ≡ frees (rules n s) - r
   payload_is h = em ∙ ap (λ (j : ℕ). j - r) (ek ∙ count-is n s r h)
 
-  pub encode_fault : a ≡ fault (callRefusals n s r m 1 (length s / record_bytes) w room) → a ≡ fault (encodeRefusals n s r w room)
-  unfolding encodeRefusals
+  pub encode_fault : a ≡ fault (call_refusals n s r m 1 (length s / record_bytes) w room) → a ≡ fault (encode_refusals n s r w room)
+  unfolding encode_refusals
   encode_fault ea = ea ∙ call_same n s r m 1 (length s / record_bytes) w room (frees (rules n s) - r) (2 ^ n) (λ h. (payload_is h, size_is n s r h))
 
-  pub read_fault : a ≡ fault (callRefusals n s r (length s / record_bytes) 1 m w room) → a ≡ fault (readRefusals n s r w room)
-  unfolding readRefusals
+  pub read_fault : a ≡ fault (call_refusals n s r (length s / record_bytes) 1 m w room) → a ≡ fault (read_refusals n s r w room)
+  unfolding read_refusals
   read_fault ea = ea ∙ call_same n s r (length s / record_bytes) 1 m w room (2 ^ n) (frees (rules n s) - r) (λ h. (size_is n s r h, payload_is h))
 
 -- K is at most the largest N
@@ -60,24 +60,24 @@ pub record Accepted (n : ℕ) (s : List ℕ) (r : ℕ) (p out : List ℕ) : Type
   pub fits : length p + r ≤ 2 ^ largest_n
   pub length-is : length s / record_bytes ≡ 2 ^ n
   pub roomy : length s / record_bytes ≤ length out
-  pub sent : (x : List ℕ) (m : ℕ) → m ≡ length x → x ≡ map bit (polar n (encoded (rules n s) r (map isOne p))) → leaving (x ++ drop m out) Done ≡ encoding n s r p out
+  pub sent : (x : List ℕ) (m : ℕ) → m ≡ length x → x ≡ map bit (polar n (encoded (rules n s) r (map is_one p))) → leaving (x ++ drop m out) Done ≡ encoding n s r p out
 
-module _ (n : ℕ) (s : List ℕ) (r : ℕ) (p out : List ℕ) (a : Answer) (ea : a ≡ fault (encodeRefusals n s r p (length out))) (b : Bool) (eb : b ≡ isDone a) where
-  told_is : (t : Bool) → b ≡ t → isDone (fault (encodeRefusals n s r p (length out))) ≡ t
-  told_is t q = ap isDone (sym ea) ∙ sym eb ∙ q
+module _ (n : ℕ) (s : List ℕ) (r : ℕ) (p out : List ℕ) (a : Answer) (ea : a ≡ fault (encode_refusals n s r p (length out))) (b : Bool) (eb : b ≡ is_done a) where
+  told_is : (t : Bool) → b ≡ t → is_done (fault (encode_refusals n s r p (length out))) ≡ t
+  told_is t q = ap is_done (sym ea) ∙ sym eb ∙ q
 
   pub encode_refused : b ≡ false → leaving out a ≡ encoding n s r p out
-  unfolding encoding encodeRefusals
-  encode_refused q = ap (leaving out) ea ∙ sym (tried_all (leaving out) (encodeRefusals n s r p (length out)) _ (told_is false q))
+  unfolding encoding encode_refusals
+  encode_refused q = ap (leaving out) ea ∙ sym (tried_all (leaving out) (encode_refusals n s r p (length out)) _ (told_is false q))
 
-  no_fault : b ≡ true → refuses (encodeRefusals n s r p (length out)) ≡ false
-  unfolding encodeRefusals sheetRefusals wordRefusals
-  no_fault q = tried_done (encodeRefusals n s r p (length out)) refl (told_is true q)
+  no-fault : b ≡ true → refuses (encode_refusals n s r p (length out)) ≡ false
+  unfolding encode_refusals sheet_refusals word_refusals
+  no-fault q = tried_done (encode_refusals n s r p (length out)) refl (told_is true q)
 
   pub accepted : b ≡ true → Accepted n s r p out
-  unfolding encodeRefusals
+  unfolding encode_refusals
   accepted q =
-      let none = none_append (sheetRefusals n s r) _ (no_fault q) in
+      let none = none_append (sheet_refusals n s r) _ (no-fault q) in
       let g = good n s r none.0 in
       let w = worded _ 1 _ p (length out) none.1 in
       let size : length s / record_bytes ≡ 2 ^ n = records_in (length s) (2 ^ n) g.long in
@@ -89,7 +89,7 @@ module _ (n : ℕ) (s : List ℕ) (r : ℕ) (p out : List ℕ) (a : Answer) (ea 
         roomy = omega (arith, size, w.roomy);
         sent = λ x m em ex.
             ap (λ (j : ℕ). leaving (x ++ drop j out) Done) em ∙ ap (λ (l : List ℕ). leaving (l ++ drop (length l) out) Done) ex
-            ∙ sym (encode_is n s r p out (no_fault q));
+            ∙ sym (encode_is n s r p out (no-fault q));
       }
 
 -- ---- read-back
@@ -101,28 +101,28 @@ pub record Read (n : ℕ) (s : List ℕ) (r k : ℕ) (w out : List ℕ) : Type 0
   pub long : length w ≡ 2 ^ n
   pub roomy : k - r ≤ length out
   pub legible : (j : ℕ) → j ≡ k → Legible n s r w j
-  pub told : (out' : List ℕ) (b : Bool) (v : Answer) → Extracted n s r w (k - r) out out' b → v ≡ pick b Done (Inconsistent 0 0) → leaving out' v ≡ readingBack n s r w out
+  pub told : (out' : List ℕ) (b : Bool) (v : Answer) → Extracted n s r w (k - r) out out' b → v ≡ pick b Done (Inconsistent 0 0) → leaving out' v ≡ reading_back n s r w out
 
-module _ (n : ℕ) (s : List ℕ) (r : ℕ) (w out : List ℕ) (a : Answer) (ea : a ≡ fault (readRefusals n s r w (length out))) (b : Bool) (eb : b ≡ isDone a) where
-  read_told : (t : Bool) → b ≡ t → isDone (fault (readRefusals n s r w (length out))) ≡ t
-  read_told t q = ap isDone (sym ea) ∙ sym eb ∙ q
+module _ (n : ℕ) (s : List ℕ) (r : ℕ) (w out : List ℕ) (a : Answer) (ea : a ≡ fault (read_refusals n s r w (length out))) (b : Bool) (eb : b ≡ is_done a) where
+  read_told : (t : Bool) → b ≡ t → is_done (fault (read_refusals n s r w (length out))) ≡ t
+  read_told t q = ap is_done (sym ea) ∙ sym eb ∙ q
 
-  pub read_refused : b ≡ false → leaving out a ≡ readingBack n s r w out
-  unfolding readingBack readRefusals
-  read_refused q = ap (leaving out) ea ∙ sym (tried_all (leaving out) (readRefusals n s r w (length out)) _ (read_told false q))
+  pub read_refused : b ≡ false → leaving out a ≡ reading_back n s r w out
+  unfolding reading_back read_refusals
+  read_refused q = ap (leaving out) ea ∙ sym (tried_all (leaving out) (read_refusals n s r w (length out)) _ (read_told false q))
 
   module _ (q : b ≡ true) (k : ℕ) (ek : k ≡ frees (tab (length s / record_bytes) (rule_at s))) where
-    none : refuses (readRefusals n s r w (length out)) ≡ false
-    unfolding readRefusals sheetRefusals wordRefusals
-    none = tried_done (readRefusals n s r w (length out)) refl (read_told true q)
+    none : refuses (read_refusals n s r w (length out)) ≡ false
+    unfolding read_refusals sheet_refusals word_refusals
+    none = tried_done (read_refusals n s r w (length out)) refl (read_told true q)
 
     sheet : Good n s r
-    unfolding readRefusals
-    sheet = good n s r (none_append (sheetRefusals n s r) _ none).0
+    unfolding read_refusals
+    sheet = good n s r (none_append (sheet_refusals n s r) _ none).0
 
     word : Worded (2 ^ n) 1 (frees (rules n s) - r) w (length out)
-    unfolding readRefusals
-    word = worded (2 ^ n) 1 (frees (rules n s) - r) w (length out) (none_append (sheetRefusals n s r) _ none).1
+    unfolding read_refusals
+    word = worded (2 ^ n) 1 (frees (rules n s) - r) w (length out) (none_append (sheet_refusals n s r) _ none).1
 
     count : k ≡ frees (rules n s)
     unfolding rules
@@ -133,12 +133,12 @@ module _ (n : ℕ) (s : List ℕ) (r : ℕ) (w out : List ℕ) (a : Answer) (ea 
 
     -- the vector behind the word
     abbrev us : List Bool
-    us = polar n (map isOne w)
+    us = polar n (map is_one w)
 
     length-us : length us ≡ 2 ^ n
-    length-us = length-polar n (map isOne w) (length-map w isOne ∙ word_long)
+    length-us = length-polar n (map is_one w) (length-map w is_one ∙ word_long)
 
-    answer : readingBack n s r w out ≡ pick (keeps (rules n s) r us) (writing (map bit (payload_of n (rules n s) r (map isOne w))) out Done) (leaving out (Inconsistent 0 0))
+    answer : reading_back n s r w out ≡ pick (keeps (rules n s) r us) (writing (map bit (payload_of n (rules n s) r (map is_one w))) out Done) (leaving out (Inconsistent 0 0))
     answer = read_is n s r w out none
 
     whole : (j : ℕ) → j ≡ k → (u : List ℕ) → u ≡ map bit us → Whole s r u j
@@ -156,17 +156,17 @@ module _ (n : ℕ) (s : List ℕ) (r : ℕ) (w out : List ℕ) (a : Answer) (ea 
         }
 
     -- the payload has K - r bits
-    length_payload : length (map bit (payload_of n (rules n s) r (map isOne w))) ≡ k - r
+    length_payload : length (map bit (payload_of n (rules n s) r (map is_one w))) ≡ k - r
     unfolding payload_of
     length_payload =
         let lf = length-free (rules n s) us (length-us ∙ sym (length-rules n s)) in
         length-map (take (frees (rules n s) - r) (free_bits (rules n s) us)) bit ∙ simp length-take (omega (arith, count))
 
-    replied : (out' : List ℕ) (t : Bool) → Extracted n s r w (k - r) out out' t → leaving out' (pick t Done (Inconsistent 0 0)) ≡ readingBack n s r w out
+    replied : (out' : List ℕ) (t : Bool) → Extracted n s r w (k - r) out out' t → leaving out' (pick t Done (Inconsistent 0 0)) ≡ reading_back n s r w out
     unfolding payload_of
     replied out' true x =
         let lp = length_payload in
-        let ep : map bit (take (k - r) (free_bits (rules n s) us)) ≡ map bit (payload_of n (rules n s) r (map isOne w)) = ap (λ (m : ℕ). map bit (take (m - r) (free_bits (rules n s) us))) count in
+        let ep : map bit (take (k - r) (free_bits (rules n s) us)) ≡ map bit (payload_of n (rules n s) r (map is_one w)) = ap (λ (m : ℕ). map bit (take (m - r) (free_bits (rules n s) us))) count in
         ap (λ (l : List ℕ). leaving l Done) (x.leaves ∙ ap₂ {C = List ℕ} (λ (a : List ℕ) (m : ℕ). a ++ drop m out) ep (sym lp)) ∙ sym (answer ∙ rw (sym x.tells))
     replied out' false x = ap (λ (l : List ℕ). leaving l (Inconsistent 0 0)) x.leaves ∙ sym (answer ∙ rw (sym x.tells))
 

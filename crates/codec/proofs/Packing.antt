@@ -25,7 +25,7 @@ use Rattle.bits.proofs.Tests.{and-false, length-tab, tab-at, tab_below, tab_appe
 use Rattle.bits.proofs.WordBits.{has_bit_xor, zero_bit, bit-same, bit_other, odd-word_bits, word_bits-tab}
 use Rattle.meaning.specs.Limits.{mask_bytes}
 use Rattle.meaning.specs.Sheet.{names, mask}
-use Rattle.meaning.specs.Answers.{isOne}
+use Rattle.meaning.specs.Answers.{is_one}
 use Rattle.sheet.specs.Masks.{mask_words, Spelt}
 use Rattle.codec.specs.Packed.{value_at, held, Holds, put}
 
@@ -33,7 +33,7 @@ use Rattle.codec.specs.Packed.{value_at, held, Holds, put}
 
 -- the count of common ones is odd exactly when an odd number of the named bits hold 1
 parity-bits : (w a b : ℕ) → b < 2 ^ w → parity_of a b ≡ bit (odd (word_bits w a) (word_bits w b))
-parity-bits w a b h = bit_cases (λ x. x ≡ bit (isOne x)) refl refl (parity_of a b) (mod_two (ones (bit_and a b))) ∙ ap bit (sym (odd-word_bits w a b h))
+parity-bits w a b h = bit_cases (λ x. x ≡ bit (is_one x)) refl refl (parity_of a b) (mod_two (ones (bit_and a b))) ∙ ap bit (sym (odd-word_bits w a b h))
 
 -- ---- the first k words
 

@@ -18,7 +18,7 @@ use Rattle.meaning.specs.Limits.{mask_bytes}
 use Rattle.meaning.specs.Sheet.{byte, mask, Rule, free, rule_at, frees}
 use Rattle.meaning.specs.Check.{free_bits}
 use Rattle.meaning.specs.Payload.{place}
-use Rattle.meaning.specs.Answers.{isOne}
+use Rattle.meaning.specs.Answers.{is_one}
 use Rattle.division.proofs.Division.{bit-small}
 use Rattle.sheet.specs.Masks.{mask_words}
 use Rattle.sheet.proofs.Records.{rule_free, rule_frozen, rules-at, frees-free, frees-frozen}
@@ -33,8 +33,8 @@ get_or_map f [] i a = refl
 get_or_map f (x ∷ l) zero a = refl
 get_or_map f (x ∷ l) (suc i) a = get_or_map f l i a
 
-is-bit : (l : List ℕ) (i : ℕ) → AreBits l → i < length l → get_or l i 0 ≡ bit (isOne (get_or l i 0))
-is-bit l i a h = ap (λ (m : List ℕ). get_or m i 0) (sym a) ∙ get_or_map bit (map isOne l) i false ∙ ap bit (get_or_map isOne l i 0)
+is-bit : (l : List ℕ) (i : ℕ) → AreBits l → i < length l → get_or l i 0 ≡ bit (is_one (get_or l i 0))
+is-bit l i a h = ap (λ (m : List ℕ). get_or m i 0) (sym a) ∙ get_or_map bit (map is_one l) i false ∙ ap bit (get_or_map is_one l i 0)
 
 module _ (s : List ℕ) (size : ℕ) where
   abbrev ks : List Rule
@@ -48,9 +48,9 @@ module _ (s : List ℕ) (size : ℕ) where
       pub long : length u ≡ size
       pub wide : length v ≡ mask_words
       pub bits : AreBits (take i u)
-      pub holds : Holds v (map isOne (take i u))
+      pub holds : Holds v (map is_one (take i u))
       pub room : next + frees (drop i ks) ≡ length f
-      pub left : map isOne (take i u) ++ place (drop i ks) (map isOne (take i u)) (drop next f) ≡ place ks [] f
+      pub left : map is_one (take i u) ++ place (drop i ks) (map is_one (take i u)) (drop next f) ≡ place ks [] f
 
     pub starts : (u : List ℕ) → length u ≡ size → length f ≡ frees ks → Placing u (replicate mask_words 0) 0 0
     starts u l e = record {
@@ -65,10 +65,10 @@ module _ (s : List ℕ) (size : ℕ) where
 
     module _ (u v : List ℕ) (next i : ℕ) (h : i < size) (p : Placing u v next i) where
       abbrev c : List Bool
-      c = map isOne (take i u)
+      c = map is_one (take i u)
 
       length_c : length c ≡ i
-      length_c = length-map (take i u) isOne ∙ simp length-take (omega (arith, p.long))
+      length_c = length-map (take i u) is_one ∙ simp length-take (omega (arith, p.long))
 
       -- the value x of a bit b at position i, with what is left
       goes : size ≤ 8 * mask_bytes → (x : ℕ) (b : Bool) (next' : ℕ) → x ≡ bit b → place (drop i ks) c (drop next f) ≡ b ∷ place (drop (suc i) ks) (c ++ (b ∷ [])) (drop next' f)
@@ -77,7 +77,7 @@ module _ (s : List ℕ) (size : ℕ) where
       goes small x b next' ex el er =
           let hu : i < length u = omega (arith, p.long) in
           let t : take (i + 1) (set u i x) ≡ take i u ++ (x ∷ []) = rw (add-one i) (take-suc-set u i x hu) in
-          let cb : map isOne (take (i + 1) (set u i x)) ≡ c ++ (b ∷ []) = ap (map isOne) t ∙ map-append isOne (take i u) (x ∷ []) ∙ ap (λ (y : Bool). c ++ (y ∷ [])) (ap isOne ex ∙ one_bit b) in
+          let cb : map is_one (take (i + 1) (set u i x)) ≡ c ++ (b ∷ []) = ap (map is_one) t ∙ map-append is_one (take i u) (x ∷ []) ∙ ap (λ (y : Bool). c ++ (y ∷ [])) (ap is_one ex ∙ one_bit b) in
           record {
             low = omega arith;
             long = length-set u i x ∙ p.long;
@@ -88,7 +88,7 @@ module _ (s : List ℕ) (size : ℕ) where
             left = rw (cb, add-one i) (append_assoc c (b ∷ []) (place (drop (suc i) ks) (c ++ (b ∷ [])) (drop next' f)) ∙ ap (λ (l : List Bool). c ++ l) (sym el) ∙ p.left);
           }
         where
-          one_bit : (b : Bool) → isOne (bit b) ≡ b
+          one_bit : (b : Bool) → is_one (bit b) ≡ b
           one_bit true = refl
           one_bit false = refl
 
@@ -114,13 +114,13 @@ module _ (s : List ℕ) (size : ℕ) where
     unfolding place
     placed u v next i h p =
         let t : take i u ≡ u = take_all i u (omega (arith, p.long)) in
-        sym (p.bits ∙ t) ∙ ap (map bit) (sym (append-nil (map isOne (take i u))) ∙ ap (λ (l : List Rule). map isOne (take i u) ++ place l (map isOne (take i u)) (drop next f)) (sym (drop_of_length-le ks {i = i} (omega (arith, length-tab size (rule_at s))))) ∙ p.left)
+        sym (p.bits ∙ t) ∙ ap (map bit) (sym (append-nil (map is_one (take i u))) ∙ ap (λ (l : List Rule). map is_one (take i u) ++ place l (map is_one (take i u)) (drop next f)) (sym (drop_of_length-le ks {i = i} (omega (arith, length-tab size (rule_at s))))) ∙ p.left)
 
   -- ---- the free bits of a vector
 
   module _ (u : List ℕ) where
     abbrev us : List Bool
-    us = map isOne u
+    us = map is_one u
 
     pub record Taking (fr : List ℕ) (next i : ℕ) : Type 0 where
       pub low : i ≤ size
@@ -128,8 +128,8 @@ module _ (s : List ℕ) (size : ℕ) where
       pub left : take next fr ++ map bit (free_bits (drop i ks) (drop i us)) ≡ map bit (free_bits ks us)
 
     module _ (lu : length u ≡ size) (au : AreBits u) (fr : List ℕ) (next i : ℕ) (h : i < size) (p : Taking fr next i) where
-      values_at : drop i us ≡ isOne (get_or u i 0) ∷ drop (suc i) us
-      values_at = drop-cons us i false (omega (arith, length-map u isOne)) ∙ ap {B = List Bool} (λ b. b ∷ drop (suc i) us) (get_or_map isOne u i 0)
+      values_at : drop i us ≡ is_one (get_or u i 0) ∷ drop (suc i) us
+      values_at = drop-cons us i false (omega (arith, length-map u is_one)) ∙ ap {B = List Bool} (λ b. b ∷ drop (suc i) us) (get_or_map is_one u i 0)
 
       pub take-room : eqb (byte s i 0) 0 ≡ true → next < length fr
       take-room e = omega (arith, p.room, frees-free s size i h refl e)
@@ -138,7 +138,7 @@ module _ (s : List ℕ) (size : ℕ) where
       free_taken e =
           let x : ℕ = get_or u i 0 in
           let hn : next < length fr = take-room e in
-          let cut : free_bits (drop i ks) (drop i us) ≡ isOne x ∷ free_bits (drop (suc i) ks) (drop (suc i) us) = rw (rules-at s size i h, rule_free s i refl e, values_at) in
+          let cut : free_bits (drop i ks) (drop i us) ≡ is_one x ∷ free_bits (drop (suc i) ks) (drop (suc i) us) = rw (rules-at s size i h, rule_free s i refl e, values_at) in
           record {
             low = omega arith;
             room = rw (add-one i) (omega (arith, p.room, frees-free s size i h refl e, length-set fr next x));
@@ -165,8 +165,8 @@ module _ (s : List ℕ) (size : ℕ) where
 -- ---- the bits that are put in
 
 -- a free bit handed in
-pub free-bit : (l : List ℕ) (k : ℕ) → AreBits l → k < length (map isOne l) → get_or l k 0 ≡ bit (get_or (map isOne l) k false)
-free-bit l k a h = is-bit l k a (omega (arith, length-map l isOne)) ∙ ap bit (sym (get_or_map isOne l k 0))
+pub free-bit : (l : List ℕ) (k : ℕ) → AreBits l → k < length (map is_one l) → get_or l k 0 ≡ bit (get_or (map is_one l) k false)
+free-bit l k a h = is-bit l k a (omega (arith, length-map l is_one)) ∙ ap bit (sym (get_or_map is_one l k 0))
 
 pub small : (x : ℕ) (b : Bool) → x ≡ bit b → x < 2
 small x b e = omega (arith, bit-small b)

@@ -17,7 +17,7 @@ use Rattle.meaning.specs.Transform.{polar}
 use Rattle.meaning.specs.Sheet.{Rule, rule_at, rules, frees}
 use Rattle.meaning.specs.Check.{keeps_rules, free_bits, divides, keeps}
 use Rattle.meaning.specs.Payload.{place}
-use Rattle.meaning.specs.Answers.{isOne}
+use Rattle.meaning.specs.Answers.{is_one}
 use Rattle.meaning.proofs.Polar.{length-polar}
 use Rattle.meaning.proofs.Encode.{length-free, keeps-place, place_unique}
 use Rattle.meaning.proofs.ReadBack.{ones_back}
@@ -35,35 +35,35 @@ take-map {B = B} f (suc i) (x ∷ l) = ap {B = List B} (λ t. f x ∷ t) (take-m
 
 -- ---- the vector behind a word
 
-pub unsent : (n : ℕ) (w u l z : List ℕ) → AreBits w → length w ≡ 2 ^ n → length u ≡ 2 ^ n → l ≡ take (length w) w ++ drop (length w) u → z ≡ transformed n l → z ≡ map bit (polar n (map isOne w))
+pub unsent : (n : ℕ) (w u l z : List ℕ) → AreBits w → length w ≡ 2 ^ n → length u ≡ 2 ^ n → l ≡ take (length w) w ++ drop (length w) u → z ≡ transformed n l → z ≡ map bit (polar n (map is_one w))
 unsent n w u l z a lw lu el ez =
     let e : l ≡ w = el ∙ ap₂ {C = List ℕ} ◌++◌ (take_all (length w) w (omega arith)) (drop_of_length-le u {i = length w} (omega arith)) ∙ append-nil w in
-    let lo : length (map isOne w) ≡ 2 ^ n = length-map w isOne ∙ lw in
-    ez ∙ ap (transformed n) (e ∙ sym a) ∙ transformed-is n (map bit (map isOne w)) (length-map (map isOne w) bit ∙ lo) ∙ polar-bytes n (map isOne w) lo
+    let lo : length (map is_one w) ≡ 2 ^ n = length-map w is_one ∙ lw in
+    ez ∙ ap (transformed n) (e ∙ sym a) ∙ transformed-is n (map bit (map is_one w)) (length-map (map is_one w) bit ∙ lo) ∙ polar-bytes n (map is_one w) lo
 
 -- u, the vector behind a word, as bytes
-module _ (n : ℕ) (s : List ℕ) (w u : List ℕ) (lw : length w ≡ 2 ^ n) (e : u ≡ map bit (polar n (map isOne w))) where
+module _ (n : ℕ) (s : List ℕ) (w u : List ℕ) (lw : length w ≡ 2 ^ n) (e : u ≡ map bit (polar n (map is_one w))) where
   pub length_u : length u ≡ 2 ^ n
-  length_u = ap length e ∙ length-map (polar n (map isOne w)) bit ∙ length-polar n (map isOne w) (length-map w isOne ∙ lw)
+  length_u = ap length e ∙ length-map (polar n (map is_one w)) bit ∙ length-polar n (map is_one w) (length-map w is_one ∙ lw)
 
-  back : map isOne u ≡ polar n (map isOne w)
-  back = ap (map isOne) e ∙ ones_back (polar n (map isOne w))
+  back : map is_one u ≡ polar n (map is_one w)
+  back = ap (map is_one) e ∙ ones_back (polar n (map is_one w))
 
   pub rules_u : tab (length u) (rule_at s) ≡ rules n s
   unfolding rules
   rules_u = ap (λ (m : ℕ). tab m (rule_at s)) length_u
 
-  module _ (r m : ℕ) (out : List ℕ) (b : Bool) (eb : b ≡ keeps (tab (length u) (rule_at s)) r (map isOne u)) where
-    tells : b ≡ keeps (rules n s) r (polar n (map isOne w))
+  module _ (r m : ℕ) (out : List ℕ) (b : Bool) (eb : b ≡ keeps (tab (length u) (rule_at s)) r (map is_one u)) where
+    tells : b ≡ keeps (rules n s) r (polar n (map is_one w))
     tells = eb ∙ ap₂ (λ (l : List Rule) (x : List Bool). keeps l r x) rules_u back
 
     pub nothing : b ≡ false → Extracted n s r w m out out b
     nothing t = record { tells = tells; leaves = rw t }
 
-    pub something : b ≡ true → (f out' : List ℕ) → f ≡ map bit (free_bits (tab (length u) (rule_at s)) (map isOne u)) → m ≤ length f
+    pub something : b ≡ true → (f out' : List ℕ) → f ≡ map bit (free_bits (tab (length u) (rule_at s)) (map is_one u)) → m ≤ length f
         → out' ≡ take (length (take m f)) (take m f) ++ drop (length (take m f)) out → Extracted n s r w m out out' b
     something t f out' ef lm eo =
-        let fb : List Bool = free_bits (rules n s) (polar n (map isOne w)) in
+        let fb : List Bool = free_bits (rules n s) (polar n (map is_one w)) in
         let lf : length (take m f) ≡ m = simp length-take (omega arith) in
         let es : take m f ≡ map bit (take m fb) = ap (take m) (ef ∙ ap₂ (λ (l : List Rule) (x : List Bool). map bit (free_bits l x)) rules_u back) ∙ take-map bit m fb in
         record {
@@ -78,14 +78,14 @@ module _ (s : List ℕ) (r : ℕ) (u : List ℕ) (k : ℕ) (ok : Whole s r u k) 
   ks = tab (length u) (rule_at s)
 
   abbrev us : List Bool
-  us = map isOne u
+  us = map is_one u
 
   length-us : length us ≡ length ks
-  length-us = length-map u isOne ∙ sym (length-tab (length u) (rule_at s))
+  length-us = length-map u is_one ∙ sym (length-tab (length u) (rule_at s))
 
   module _ (f : List ℕ) (ef : f ≡ map bit (free_bits ks us)) where
-    frees_back : map isOne f ≡ free_bits ks us
-    frees_back = ap (map isOne) ef ∙ ones_back (free_bits ks us)
+    frees_back : map is_one f ≡ free_bits ks us
+    frees_back = ap (map is_one) ef ∙ ones_back (free_bits ks us)
 
     pub free-bits : AreBits f
     free-bits = subst (λ (l : List ℕ). AreBits l) (sym ef) (bits_are (free_bits ks us))
@@ -94,8 +94,8 @@ module _ (s : List ℕ) (r : ℕ) (u : List ℕ) (k : ℕ) (ok : Whole s r u k) 
     place_again = ((ok.long, ok.within), (free-bits, ap length ef ∙ length-map (free_bits ks us) bit ∙ length-free ks us length-us))
 
     -- b tells whether the free bits give the vector again
-    module _ (b : Bool) (tell : Tells b (u ≡ map bit (place ks [] (map isOne f)))) where
-      again : map bit (place ks [] (map isOne f)) ≡ map bit (place ks [] (free_bits ks us))
+    module _ (b : Bool) (tell : Tells b (u ≡ map bit (place ks [] (map is_one f)))) where
+      again : map bit (place ks [] (map is_one f)) ≡ map bit (place ks [] (free_bits ks us))
       again = ap (λ (x : List Bool). map bit (place ks [] x)) frees_back
 
       -- another vector: a rule is broken
@@ -111,7 +111,7 @@ module _ (s : List ℕ) (r : ℕ) (u : List ℕ) (k : ℕ) (ok : Whole s r u k) 
       pub held : b ≡ true → (d : Bool) → d ≡ dividing r f → d ≡ keeps ks r us
       unfolding keeps
       held e d ed =
-          let same : us ≡ place ks [] (free_bits ks us) = ap (map isOne) (tell.yes e ∙ again) ∙ ones_back (place ks [] (free_bits ks us)) in
+          let same : us ≡ place ks [] (free_bits ks us) = ap (map is_one) (tell.yes e ∙ again) ∙ ones_back (place ks [] (free_bits ks us)) in
           let kept : keeps_rules ks us us ≡ true = subst (λ (x : List Bool). keeps_rules ks x x ≡ true) (sym same) (keeps-place ks [] (free_bits ks us) ok.ordered) in
           rw kept (ed ∙ dividing-is r f (known-listed r ok.check) ∙ ap (λ (x : List Bool). divides r (leads r ++ x)) frees_back)
 
@@ -126,9 +126,9 @@ module _ (s f u l : List ℕ) (el : length l ≡ length u) where
   pub within : (x v : List ℕ) → length x ≡ length l → length u ≤ length (x ++ v)
   within x v lx = omega (arith, length-append x v, el, lx)
 
-  pub compared : (x v : List ℕ) → length x ≡ length l → x ≡ map bit (place (tab (length l) (rule_at s)) [] (map isOne f)) → (b : Bool) → (b ≡ true → u ≡ take (length u - 0) (x ++ v)) → (u ≡ take (length u - 0) (x ++ v) → b ≡ true)
-      → Tells b (u ≡ map bit (place (tab (length u) (rule_at s)) [] (map isOne f)))
+  pub compared : (x v : List ℕ) → length x ≡ length l → x ≡ map bit (place (tab (length l) (rule_at s)) [] (map is_one f)) → (b : Bool) → (b ≡ true → u ≡ take (length u - 0) (x ++ v)) → (u ≡ take (length u - 0) (x ++ v) → b ≡ true)
+      → Tells b (u ≡ map bit (place (tab (length u) (rule_at s)) [] (map is_one f)))
   compared x v lx ex b p q =
       let lu : length u - 0 ≡ length x = omega (arith, el, lx) in
-      let e : take (length u - 0) (x ++ v) ≡ map bit (place (tab (length u) (rule_at s)) [] (map isOne f)) = rw lu (take-append_seam x v) ∙ ex ∙ ap (λ (m : ℕ). map bit (place (tab m (rule_at s)) [] (map isOne f))) el in
+      let e : take (length u - 0) (x ++ v) ≡ map bit (place (tab (length u) (rule_at s)) [] (map is_one f)) = rw lu (take-append_seam x v) ∙ ex ∙ ap (λ (m : ℕ). map bit (place (tab m (rule_at s)) [] (map is_one f))) el in
       record { yes = λ t. p t ∙ e; no = λ h. q (h ∙ sym e) }

@@ -15,7 +15,7 @@ use Rattle.meaning.specs.Transform.{polar}
 use Rattle.meaning.specs.Sheet.{rule_at, rules, frees}
 use Rattle.meaning.specs.Check.{poly}
 use Rattle.meaning.specs.Payload.{remainder, place, encoded}
-use Rattle.meaning.specs.Answers.{isOne}
+use Rattle.meaning.specs.Answers.{is_one}
 use Rattle.meaning.proofs.Sound.{length-rules}
 use Rattle.meaning.proofs.Encode.{length-place}
 use Rattle.meaning.proofs.ReadBack.{ones_back}
@@ -36,28 +36,28 @@ module _ (n : ℕ) (s : List ℕ) (r : ℕ) (p : List ℕ) (k : ℕ) (ok : Encod
   unfolding largest_n mask_bytes
   within m e = omega (arith, e, pow_mono ok.small)
 
-  pub checked : (f₀ f : List ℕ) → length f₀ ≡ k → f ≡ appending r p f₀ → f ≡ map bit (map isOne p ++ remainder (poly r) (leads r ++ map isOne p))
+  pub checked : (f₀ f : List ℕ) → length f₀ ≡ k → f ≡ appending r p f₀ → f ≡ map bit (map is_one p ++ remainder (poly r) (leads r ++ map is_one p))
   checked f₀ f l e =
-      let c : List Bool = remainder (poly r) (leads r ++ map isOne p) in
-      e ∙ appending-is r p f₀ (fitting-is (length p) r (length f₀) ok.check (l ∙ ok.sum)) ∙ ap (λ (q : List ℕ). q ++ map bit c) (sym ok.bits) ∙ sym (map-append bit (map isOne p) c)
+      let c : List Bool = remainder (poly r) (leads r ++ map is_one p) in
+      e ∙ appending-is r p f₀ (fitting-is (length p) r (length f₀) ok.check (l ∙ ok.sum)) ∙ ap (λ (q : List ℕ). q ++ map bit c) (sym ok.bits) ∙ sym (map-append bit (map is_one p) c)
 
-  module _ (x f : List ℕ) (lx : length x ≡ 2 ^ n) (lf : length f ≡ k) (e : f ≡ map bit (map isOne p ++ remainder (poly r) (leads r ++ map isOne p))) where
+  module _ (x f : List ℕ) (lx : length x ≡ 2 ^ n) (lf : length f ≡ k) (e : f ≡ map bit (map is_one p ++ remainder (poly r) (leads r ++ map is_one p))) where
     pub place_ready : ((length s ≡ length x * record_bytes) × (length x ≤ 8 * mask_bytes)) × (AreBits f × (length f ≡ frees (tab (length x) (rule_at s))))
     unfolding rules
     place_ready = (
       (ok.long ∙ ap (λ (m : ℕ). m * record_bytes) (sym lx), within (length x) lx),
       (
-        subst (λ (l : List ℕ). AreBits l) (sym e) (bits_are (map isOne p ++ remainder (poly r) (leads r ++ map isOne p))),
+        subst (λ (l : List ℕ). AreBits l) (sym e) (bits_are (map is_one p ++ remainder (poly r) (leads r ++ map is_one p))),
         lf ∙ ok.count ∙ ap (λ (m : ℕ). frees (tab m (rule_at s))) (sym lx),
       ),
     )
 
-    pub sent : (y z : List ℕ) → y ≡ map bit (place (tab (length x) (rule_at s)) [] (map isOne f)) → z ≡ transformed n y → z ≡ map bit (polar n (encoded (rules n s) r (map isOne p)))
+    pub sent : (y z : List ℕ) → y ≡ map bit (place (tab (length x) (rule_at s)) [] (map is_one f)) → z ≡ transformed n y → z ≡ map bit (polar n (encoded (rules n s) r (map is_one p)))
     unfolding encoded rules
     sent y z ey ez =
-        let b : List Bool = map isOne p ++ remainder (poly r) (leads r ++ map isOne p) in
+        let b : List Bool = map is_one p ++ remainder (poly r) (leads r ++ map is_one p) in
         let u : List Bool = place (rules n s) [] b in
-        let back : map isOne f ≡ b = ap (map isOne) e ∙ ones_back b in
+        let back : map is_one f ≡ b = ap (map is_one) e ∙ ones_back b in
         let eu : y ≡ map bit u = ey ∙ ap₂ (λ (m : ℕ) (v : List Bool). map bit (place (tab m (rule_at s)) [] v)) lx back in
         let lu : length u ≡ 2 ^ n = length-place (rules n s) [] b ∙ length-rules n s in
         ez ∙ ap (transformed n) eu ∙ transformed-is n (map bit u) (length-map u bit ∙ lu) ∙ polar-bytes n u lu

@@ -11,10 +11,10 @@ use Rattle.meaning.specs.Limits.{largest_n, mask_bytes, record_bytes}
 use Rattle.meaning.specs.Sheet.{rule_at, rules, frees, early}
 use Rattle.meaning.specs.Transform.{polar}
 use Rattle.meaning.specs.Check.{free_bits, keeps}
-use Rattle.meaning.specs.Answers.{isOne}
+use Rattle.meaning.specs.Answers.{is_one}
 
 abbrev pub AreBits : List ℕ → Type 0
-AreBits l = map bit (map isOne l) ≡ l
+AreBits l = map bit (map is_one l) ≡ l
 
 pub record Encodable (n : ℕ) (s : List ℕ) (r : ℕ) (p : List ℕ) (k : ℕ) : Type 0 where
   pub small : n ≤ largest_n
@@ -35,12 +35,12 @@ pub record Whole (s : List ℕ) (r : ℕ) (u : List ℕ) (k : ℕ) : Type 0 wher
 pub record Legible (n : ℕ) (s : List ℕ) (r : ℕ) (w : List ℕ) (k : ℕ) : Type 0 where
   pub bits : AreBits w
   pub long : length w ≡ 2 ^ n
-  pub behind : (u : List ℕ) → u ≡ map bit (polar n (map isOne w)) → Whole s r u k
+  pub behind : (u : List ℕ) → u ≡ map bit (polar n (map is_one w)) → Whole s r u k
 
 -- b tells whether the word is a codeword
 pub record Extracted (n : ℕ) (s : List ℕ) (r : ℕ) (w : List ℕ) (m : ℕ) (out out' : List ℕ) (b : Bool) : Type 0 where
-  pub tells : b ≡ keeps (rules n s) r (polar n (map isOne w))
-  pub leaves : out' ≡ pick b (map bit (take m (free_bits (rules n s) (polar n (map isOne w)))) ++ drop m out) out
+  pub tells : b ≡ keeps (rules n s) r (polar n (map is_one w))
+  pub leaves : out' ≡ pick b (map bit (take m (free_bits (rules n s) (polar n (map is_one w)))) ++ drop m out) out
 
 pub record Tells (b : Bool) (A : Type 0) : Type 0 where
   pub yes : b ≡ true → A

@@ -9,7 +9,7 @@ ghost use Rattle.meaning.specs.Check.{free_bits, keeps};
 ghost use Rattle.meaning.specs.Payload.{encoded};
 ghost use Rattle.codec.specs.Ready.{AreBits, Encodable, Whole, Legible, Extracted};
 ghost use Rattle.meaning.specs.declared.Answer.TheVariants.{Done, Inconsistent};
-ghost use Rattle.meaning.specs.Answers.{fault, encodeRefusals, readRefusals, encoding, readingBack, reply, isOne};
+ghost use Rattle.meaning.specs.Answers.{fault, encode_refusals, read_refusals, encoding, reading_back, reply, is_one};
 
 mod rules;
 
@@ -18,7 +18,7 @@ use meaning::{Answer, limits};
 // Writes the codeword of a payload into a block of N symbols. The sheet and the payload are not refused, and `free` has K places.
 fn write_codeword(n: usize, sheet: &[u8], r: usize, payload: &[u8], free: &mut [u8], x: &mut [u8])
     requires { Encodable n sheet.now r payload.now (length free.old) × (length x.old ≡ 2 ^ n) }
-    ensures { x.new ≡ map bit (polar n (encoded (rules n sheet.now) r (map isOne payload.now))) }
+    ensures { x.new ≡ map bit (polar n (encoded (rules n sheet.now) r (map is_one payload.now))) }
 {
     division::append(payload, r, free);
     rules::place_bits(sheet, free, x);
@@ -34,7 +34,7 @@ fn payload_length(k: usize, r: usize) -> usize
 
 // The fault of form that an encoding is refused for: the sheet's, the payload's or the output's. Done where there is none.
 fn encode_fault(n: usize, sheet: &[u8], r: usize, payload: &[u8], room: usize) -> Answer
-    ensures { result ≡ fault (encodeRefusals n sheet.now r payload.now room) }
+    ensures { result ≡ fault (encode_refusals n sheet.now r payload.now room) }
 {
     let size = sheet.len() / limits::RECORD;
     let m = payload_length(sheet::count_free(sheet), r);
@@ -76,7 +76,7 @@ pub fn encode(n: usize, sheet: &[u8], r: usize, payload: &[u8], out: &mut [u8]) 
 // The vector u behind a word with nothing erased: its transform.
 fn vector_behind(n: usize, word: &[u8], u: &mut [u8])
     requires { AreBits word.now × (length word.now ≡ 2 ^ n) × (length u.old ≡ 2 ^ n) }
-    ensures { u.new ≡ map bit (polar n (map isOne word.now)) }
+    ensures { u.new ≡ map bit (polar n (map is_one word.now)) }
 {
     bytes::copy(word, u);
     polar::transform(u, n);
@@ -85,7 +85,7 @@ fn vector_behind(n: usize, word: &[u8], u: &mut [u8])
 // Whether u keeps every frozen rule and the check; takes its free bits out on the way.
 fn lawful(sheet: &[u8], r: usize, u: &[u8], free: &mut [u8]) -> bool
     requires { Whole sheet.now r u.now (length free.old) }
-    ensures { (result ≡ keeps (tab (length u.now) (rule_at sheet.now)) r (map isOne u.now)) × (free.new ≡ map bit (free_bits (tab (length u.now) (rule_at sheet.now)) (map isOne u.now))) }
+    ensures { (result ≡ keeps (tab (length u.now) (rule_at sheet.now)) r (map is_one u.now)) × (free.new ≡ map bit (free_bits (tab (length u.now) (rule_at sheet.now)) (map is_one u.now))) }
 {
     rules::take_free(sheet, u, free);
     if !rules::ruled(sheet, free, u) {
@@ -119,7 +119,7 @@ fn extract(
 
 // The fault of form that a reading is refused for: the sheet's, the word's or the output's. Done where there is none.
 fn read_fault(n: usize, sheet: &[u8], r: usize, word: &[u8], room: usize) -> Answer
-    ensures { result ≡ fault (readRefusals n sheet.now r word.now room) }
+    ensures { result ≡ fault (read_refusals n sheet.now r word.now room) }
 {
     let size = sheet.len() / limits::RECORD;
     let m = payload_length(sheet::count_free(sheet), r);
@@ -148,7 +148,7 @@ fn read_in(
     out: &mut [u8],
 ) -> Answer
     requires { (2 ^ largest_n ≤ length u.old) × (2 ^ largest_n ≤ length free.old) }
-    ensures { reply out.new result ≡ readingBack n sheet.now r word.now out.old }
+    ensures { reply out.new result ≡ reading_back n sheet.now r word.now out.old }
 {
     let a = read_fault(n, sheet, r, word, out.len());
     if !answers::is_done(a) {
@@ -174,7 +174,7 @@ fn read_in(
 // refuses (as sheet::check_sheet; 14: the word is not N long; 15: the first symbol above 1; 16: the output is shorter
 // than K - r). All but Done leave the output as found.
 pub fn read_back(n: usize, sheet: &[u8], r: usize, word: &[u8], out: &mut [u8]) -> Answer
-    ensures { reply out.new result ≡ readingBack n sheet.now r word.now out.old }
+    ensures { reply out.new result ≡ reading_back n sheet.now r word.now out.old }
 {
     let mut u = [0u8; limits::POSITIONS];
     let mut free = [0u8; limits::POSITIONS];

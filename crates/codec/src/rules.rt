@@ -5,7 +5,7 @@ ghost use Rattle.meaning.specs.Limits.{record_bytes, mask_bytes};
 ghost use Rattle.meaning.specs.Sheet.{byte, mask, rule_at, frees};
 ghost use Rattle.meaning.specs.Check.{free_bits};
 ghost use Rattle.meaning.specs.Payload.{place};
-ghost use Rattle.meaning.specs.Answers.{isOne};
+ghost use Rattle.meaning.specs.Answers.{is_one};
 ghost use Rattle.sheet.specs.Masks.{mask_words};
 ghost use Rattle.codec.specs.Packed.{held, put};
 ghost use Rattle.codec.specs.Ready.{AreBits, Tells};
@@ -58,7 +58,7 @@ fn remember(values: &mut [u64], i: usize, b: u8)
 pub fn place_bits(sheet: &[u8], free: &[u8], u: &mut [u8])
     requires sheet_len { (length sheet.now ≡ length u.old * record_bytes) × (length u.old ≤ 8 * mask_bytes) }
     requires are_bits { AreBits free.now × (length free.now ≡ frees (tab (length u.old) (rule_at sheet.now))) }
-    ensures { u.new ≡ map bit (place (tab (length u.old) (rule_at sheet.now)) [] (map isOne free.now)) }
+    ensures { u.new ≡ map bit (place (tab (length u.old) (rule_at sheet.now)) [] (map is_one free.now)) }
 {
     let mut values = [0u64; sheet::MASK_WORDS];
     let mut next = 0;
@@ -81,7 +81,7 @@ pub fn place_bits(sheet: &[u8], free: &[u8], u: &mut [u8])
 pub fn take_free(sheet: &[u8], u: &[u8], free: &mut [u8])
     requires sheet_len { (length sheet.now ≡ length u.now * record_bytes) × AreBits u.now }
     requires free_len { length free.old ≡ frees (tab (length u.now) (rule_at sheet.now)) }
-    ensures { free.new ≡ map bit (free_bits (tab (length u.now) (rule_at sheet.now)) (map isOne u.now)) }
+    ensures { free.new ≡ map bit (free_bits (tab (length u.now) (rule_at sheet.now)) (map is_one u.now)) }
 {
     let mut next = 0;
     let mut i = 0;
@@ -98,7 +98,7 @@ pub fn take_free(sheet: &[u8], u: &[u8], free: &mut [u8])
 pub fn ruled(sheet: &[u8], free: &[u8], u: &[u8]) -> bool
     requires sheet_len { (length sheet.now ≡ length u.now * record_bytes) × (length u.now ≤ 8 * mask_bytes) }
     requires are_bits { AreBits free.now × (length free.now ≡ frees (tab (length u.now) (rule_at sheet.now))) }
-    ensures { Tells result (u.now ≡ map bit (place (tab (length u.now) (rule_at sheet.now)) [] (map isOne free.now))) }
+    ensures { Tells result (u.now ≡ map bit (place (tab (length u.now) (rule_at sheet.now)) [] (map is_one free.now))) }
 {
     let mut v = [0u8; limits::POSITIONS];
     let size = u.len();

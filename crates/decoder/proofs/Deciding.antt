@@ -1,5 +1,5 @@
 -- The faults of form, and decoding where one applies and where none does.
---     fault_call, fault_ceiling, fault_none                  the fault of form, test by test
+--     fault_call, fault_ceiling, fault-none                  the fault of form, test by test
 --     decode_refused                                         decoding is refused for it
 --     form_none, decode-formed                               nothing is refused: what is left to decide
 --     decode_passed, decode_decided                          the same, where no fault was found
@@ -23,7 +23,7 @@ use Rattle.meaning.specs.Limits.{largest_n, record_bytes, largest_ceiling}
 use Rattle.meaning.specs.Sheet.{rules}
 use Rattle.meaning.specs.Codewords.{candidates}
 use Rattle.meaning.specs.Open.{unknowns, equations}
-use Rattle.meaning.specs.Answers.{Refusal, Reply, ◌⇒◌, isDone, refuses, fault, sheetRefusals, wordRefusals, callRefusals, formRefusals, decodeRefusals, leaving, verdict, decoding}
+use Rattle.meaning.specs.Answers.{Refusal, Reply, ◌⇒◌, is_done, refuses, fault, sheet_refusals, word_refusals, call_refusals, form_refusals, decode_refusals, leaving, verdict, decoding}
 use Rattle.meaning.specs.declared.Answer.{Answer}
 use Rattle.meaning.specs.declared.Answer.TheVariants.{Done, BadCeiling, TooMany}
 use Rattle.meaning.proofs.Refusals.{tried_done, tried_refused, past_none, none_append, both-none}
@@ -43,35 +43,35 @@ use Rattle.decoder.specs.Rooms.{most_wide, most_words}
 module _ (n : ℕ) (s : List ℕ) (r c : ℕ) (w : List ℕ) (room : ℕ) where
   -- 11 to 16, and 17
   abbrev call : List Refusal
-  call = callRefusals n s r (2 ^ n) 2 (3 * 2 ^ n) w room
+  call = call_refusals n s r (2 ^ n) 2 (3 * 2 ^ n) w room
 
   abbrev ceiling : List Refusal
   ceiling = (ltb largest_ceiling c ⇒ BadCeiling) ∷ []
 
   -- N, in the value that the code has
-  module _ (k : ℕ) (ek : k ≡ length s / record_bytes) (a : Answer) (ea : a ≡ fault (callRefusals n s r k 2 (3 * k) w room)) (b : Bool) (eb : b ≡ isDone a) where
+  module _ (k : ℕ) (ek : k ≡ length s / record_bytes) (a : Answer) (ea : a ≡ fault (call_refusals n s r k 2 (3 * k) w room)) (b : Bool) (eb : b ≡ is_done a) where
     meant : a ≡ fault call
     meant = ea ∙ call_same n s r k 2 (3 * k) w room (2 ^ n) (3 * 2 ^ n) (λ h. let e : k ≡ 2 ^ n = ek ∙ size_is n s r h in (e, ap (λ (j : ℕ). 3 * j) e))
 
-    pub fault_call : b ≡ false → a ≡ fault (formRefusals n s r c w room)
-    unfolding formRefusals
-    fault_call t = meant ∙ sym (tried_refused (λ (x : Answer). x) call ceiling Done (ap isDone (sym meant) ∙ sym eb ∙ t))
+    pub fault_call : b ≡ false → a ≡ fault (form_refusals n s r c w room)
+    unfolding form_refusals
+    fault_call t = meant ∙ sym (tried_refused (λ (x : Answer). x) call ceiling Done (ap is_done (sym meant) ∙ sym eb ∙ t))
 
-    past_call : b ≡ true → fault (formRefusals n s r c w room) ≡ fault ceiling
-    unfolding formRefusals sheetRefusals wordRefusals
-    past_call t = past_none (λ (x : Answer). x) call ceiling Done (tried_done call refl (ap isDone (sym meant) ∙ sym eb ∙ t))
+    past_call : b ≡ true → fault (form_refusals n s r c w room) ≡ fault ceiling
+    unfolding form_refusals sheet_refusals word_refusals
+    past_call t = past_none (λ (x : Answer). x) call ceiling Done (tried_done call refl (ap is_done (sym meant) ∙ sym eb ∙ t))
 
-    pub fault_ceiling : b ≡ true → largest_ceiling < c → BadCeiling ≡ fault (formRefusals n s r c w room)
+    pub fault_ceiling : b ≡ true → largest_ceiling < c → BadCeiling ≡ fault (form_refusals n s r c w room)
     fault_ceiling t h = sym (past_call t ∙ rw (lt-ltb largest_ceiling c h) refl)
 
-    pub fault_none : b ≡ true → c ≤ largest_ceiling → Done ≡ fault (formRefusals n s r c w room)
-    fault_none t h = sym (past_call t ∙ rw (le-ltb largest_ceiling c h) refl)
+    pub fault-none : b ≡ true → c ≤ largest_ceiling → Done ≡ fault (form_refusals n s r c w room)
+    fault-none t h = sym (past_call t ∙ rw (le-ltb largest_ceiling c h) refl)
 
 -- ---- decoding
 
 module _ (n : ℕ) (s : List ℕ) (r c : ℕ) (w out : List ℕ) where
   abbrev F : List Refusal
-  F = formRefusals n s r c w (length out)
+  F = form_refusals n s r c w (length out)
 
   abbrev G : ℕ
   G = unknowns n (rules n s) w
@@ -79,12 +79,12 @@ module _ (n : ℕ) (s : List ℕ) (r c : ℕ) (w out : List ℕ) where
   abbrev last : Reply
   last = verdict n G (equations n (rules n s) r w) (candidates n (rules n s) r w) out
 
-  pub form_none : refuses (sheetRefusals n s r) ≡ false → refuses (wordRefusals (2 ^ n) 2 (3 * 2 ^ n) w (length out)) ≡ false → c ≤ largest_ceiling → refuses F ≡ false
-  unfolding formRefusals
-  form_none p q h = both-none (call n s r c w (length out)) _ (both-none (sheetRefusals n s r) _ p q) (rw (le-ltb largest_ceiling c h) refl)
+  pub form_none : refuses (sheet_refusals n s r) ≡ false → refuses (word_refusals (2 ^ n) 2 (3 * 2 ^ n) w (length out)) ≡ false → c ≤ largest_ceiling → refuses F ≡ false
+  unfolding form_refusals
+  form_none p q h = both-none (call n s r c w (length out)) _ (both-none (sheet_refusals n s r) _ p q) (rw (le-ltb largest_ceiling c h) refl)
 
   pub decode-formed : refuses F ≡ false → deciding n s r c w out ≡ decoding n s r c w out
-  unfolding deciding decoding decodeRefusals
+  unfolding deciding decoding decode_refusals
   decode-formed h = sym (past_none (leaving out) F ((ltb c G ⇒ TooMany G) ∷ []) last h)
 
   formed : refuses F ≡ false → Formed n s r c w out
@@ -101,14 +101,14 @@ module _ (n : ℕ) (s : List ℕ) (r c : ℕ) (w out : List ℕ) where
         low = low;
       }
 
-  module _ (a : Answer) (ea : a ≡ fault (formRefusals n s r c w (length out))) (b : Bool) (eb : b ≡ isDone a) where
+  module _ (a : Answer) (ea : a ≡ fault (form_refusals n s r c w (length out))) (b : Bool) (eb : b ≡ is_done a) where
     pub decode_refused : b ≡ false → leaving out a ≡ decoding n s r c w out
-    unfolding decoding decodeRefusals formRefusals
-    decode_refused t = ap (leaving out) ea ∙ sym (tried_refused (leaving out) F ((ltb c G ⇒ TooMany G) ∷ []) last (ap isDone (sym ea) ∙ sym eb ∙ t))
+    unfolding decoding decode_refusals form_refusals
+    decode_refused t = ap (leaving out) ea ∙ sym (tried_refused (leaving out) F ((ltb c G ⇒ TooMany G) ∷ []) last (ap is_done (sym ea) ∙ sym eb ∙ t))
 
     none : b ≡ true → refuses F ≡ false
-    unfolding formRefusals sheetRefusals wordRefusals
-    none t = tried_done F refl (ap isDone (sym ea) ∙ sym eb ∙ t)
+    unfolding form_refusals sheet_refusals word_refusals
+    none t = tried_done F refl (ap is_done (sym ea) ∙ sym eb ∙ t)
 
     pub decode_passed : b ≡ true → Formed n s r c w out
     decode_passed t = formed (none t)

@@ -19,7 +19,7 @@ use Rattle.meaning.specs.Codewords.{candidates}
 use Rattle.meaning.specs.Open.{equations}
 use Rattle.meaning.specs.Strips.{settled_at, settled, strips}
 use Rattle.meaning.specs.Payload.{encoded}
-use Rattle.meaning.specs.Answers.{Reply, refuses, isDone, isOne, sheetRefusals, wordRefusals, encodeRefusals, leaving, writing, verdict, encoding, decoding}
+use Rattle.meaning.specs.Answers.{Reply, refuses, is_done, is_one, sheet_refusals, word_refusals, encode_refusals, leaving, writing, verdict, encoding, decoding}
 use Rattle.meaning.specs.declared.Answer.{Answer}
 use Rattle.meaning.specs.declared.Answer.TheVariants.{Done, Unique, TooMany}
 use Rattle.meaning.proofs.Polar.{length-polar, polar-polar}
@@ -39,14 +39,14 @@ settled_one (true ∷ x) = ap {B = List ℕ} (λ t. 1 ∷ t) (settled_one x)
 settled_one (false ∷ x) = ap {B = List ℕ} (λ t. 0 ∷ t) (settled_one x)
 
 module _ (n : ℕ) (s : List ℕ) (r c : ℕ) (out : List ℕ) (x : List Bool) (lx : length x ≡ 2 ^ n) (k : keeps (rules n s) r (polar n x) ≡ true)
-    (ok : refuses (sheetRefusals n s r) ≡ false) (room : 3 * 2 ^ n ≤ length out) (low : c ≤ largest_ceiling) where
+    (ok : refuses (sheet_refusals n s r) ≡ false) (room : 3 * 2 ^ n ≤ length out) (low : c ≤ largest_ceiling) where
   abbrev w : List ℕ
   w = map bit x
 
   abbrev m : ℕ
   m = equations n (rules n s) r w
 
-  word_fine : refuses (wordRefusals (2 ^ n) 2 (3 * 2 ^ n) w (length out)) ≡ false
+  word_fine : refuses (word_refusals (2 ^ n) 2 (3 * 2 ^ n) w (length out)) ≡ false
   word_fine = word_none (2 ^ n) 2 (3 * 2 ^ n) x (length out) (omega arith) lx room
 
   itself : candidates n (rules n s) r w ≡ x ∷ []
@@ -75,22 +75,22 @@ module _ (n : ℕ) (s : List ℕ) (r c : ℕ) (p out out' y z : List ℕ) (a b :
   ks = rules n s
 
   abbrev bits : List Bool
-  bits = map isOne p
+  bits = map is_one p
 
   -- the codeword
   abbrev word : List ℕ
   word = map bit (polar n (encoded ks r bits))
 
-  fine : refuses (encodeRefusals n s r p (length out)) ≡ false
-  fine = encoded-none n s r p out (ap (λ (t : Reply). isDone t.answer) (sym e) ∙ ap isDone d)
+  fine : refuses (encode_refusals n s r p (length out)) ≡ false
+  fine = encoded-none n s r p out (ap (λ (t : Reply). is_done t.answer) (sym e) ∙ ap is_done d)
 
   pub encode_decode : (b ≡ Unique 0 (equations n ks r word)) × (z ≡ (word ++ word ++ word) ++ drop (length (word ++ word ++ word)) out')
-  unfolding encodeRefusals
+  unfolding encode_refusals
   encode_decode =
-      let (ns, nw) = none_append (sheetRefusals n s r) (wordRefusals (frees ks - r) 1 (2 ^ n) p (length out)) fine in
+      let (ns, nw) = none_append (sheet_refusals n s r) (word_refusals (frees ks - r) 1 (2 ^ n) p (length out)) fine in
       let g = good n s r ns in
       let l = worded (frees ks - r) 1 (2 ^ n) p (length out) nw in
-      let size : length bits + r ≡ frees ks = omega (arith, length-map p isOne, g.roomy, l.long) in
+      let size : length bits + r ≡ frees ks = omega (arith, length-map p is_one, g.roomy, l.long) in
       let u : List Bool = encoded ks r bits in
       let (lu, ku, tu) = encoded-keeps n ks r (length-rules n s) g.ordered bits size in
       let lx : length (polar n u) ≡ 2 ^ n = length-polar n u lu in

@@ -1,7 +1,7 @@
 // The decoder: what can be known of a word with erasures. It is total: what is faulty is refused with its number, in 01's
 // order, and a refusal leaves the output as found.
 ghost use Rattle.std.specs.Prelude.{◌≡◌, ◌+◌, ◌*◌, ◌^◌, ◌≤◌, ◌<◌, length, replicate};
-ghost use Rattle.meaning.specs.Answers.{fault, formRefusals, reply, decoding};
+ghost use Rattle.meaning.specs.Answers.{fault, form_refusals, reply, decoding};
 ghost use Rattle.descent.specs.Descending.{widest};
 ghost use Rattle.decoder.specs.Deciding.{deciding, Formed};
 
@@ -14,7 +14,7 @@ use system::{System, Terms};
 // The fault of form that decoding is refused for: the sheet's, the word's, the output's or the ceiling's. Done where there is
 // none.
 fn fault(n: usize, sheet: &[u8], r: usize, ceiling: usize, word: &[u8], room: usize) -> Answer
-    ensures { result ≡ fault (formRefusals n sheet.now r ceiling word.now room) }
+    ensures { result ≡ fault (form_refusals n sheet.now r ceiling word.now room) }
 {
     let size = sheet.len() / limits::RECORD;
     let a = sheet::check_call(n, sheet, r, word, size, 2, room, 3 * size);

@@ -20,7 +20,7 @@ use Rattle.bits.proofs.Tests.{and_l, and_r}
 use Rattle.meaning.specs.Limits.{leads}
 use Rattle.meaning.specs.Check.{poly, divides}
 use Rattle.meaning.specs.Payload.{remainder}
-use Rattle.meaning.specs.Answers.{isOne}
+use Rattle.meaning.specs.Answers.{is_one}
 use Rattle.bits.proofs.Parts.{from, back}
 use Rattle.division.specs.Division.{to_bits, Fed, listed, fitting, dividing, appending}
 use Rattle.division.proofs.Division.{remainder_is, fed-zero}
@@ -37,10 +37,10 @@ module _ (p out l : List ℕ) (r : ℕ) (e : l ≡ take (length p) p ++ drop (le
   pub tail_length : length (take (length l - length p) (drop (length p) l)) ≡ r
   tail_length = ap length (from l (length p)) ∙ length-drop (length p) l ∙ omega (arith, length_l)
 
-  pub attached : (b : List ℕ) (w : ℕ) → b ≡ map bit (to_bits (length (take (length l - length p) (drop (length p) l))) w) → Fed r (map isOne p ++ replicate r false) w
-      → put_mid (length p) (length l - length p) l b ≡ p ++ map bit (remainder (poly r) (leads r ++ map isOne p))
+  pub attached : (b : List ℕ) (w : ℕ) → b ≡ map bit (to_bits (length (take (length l - length p) (drop (length p) l))) w) → Fed r (map is_one p ++ replicate r false) w
+      → put_mid (length p) (length l - length p) l b ≡ p ++ map bit (remainder (poly r) (leads r ++ map is_one p))
   attached b w eb f =
-      let c : b ≡ map bit (remainder (poly r) (leads r ++ map isOne p)) = eb ∙ ap (λ (k : ℕ). map bit (to_bits k w)) tail_length ∙ ap (map bit) (remainder_is r (map isOne p) w f) in
+      let c : b ≡ map bit (remainder (poly r) (leads r ++ map is_one p)) = eb ∙ ap (λ (k : ℕ). map bit (to_bits k w)) tail_length ∙ ap (map bit) (remainder_is r (map is_one p) w f) in
       back l b (length p) ∙ ap₂ {C = List ℕ} ◌++◌ (ap (take (length p)) copied ∙ take_at p (drop (length p) out) (length p) refl) c
 
 -- ---- whether there is a check of length r
@@ -68,12 +68,12 @@ pub dividing-not : (r : ℕ) (l : List ℕ) → listed r ≡ false → dividing 
 unfolding dividing
 dividing-not r l h = rw h
 
-pub dividing-is : (r : ℕ) (l : List ℕ) → listed r ≡ true → dividing r l ≡ divides r (leads r ++ map isOne l)
+pub dividing-is : (r : ℕ) (l : List ℕ) → listed r ≡ true → dividing r l ≡ divides r (leads r ++ map is_one l)
 unfolding dividing
 dividing-is r l h = rw h
 
-pub fed-tells : (r : ℕ) (l : List ℕ) (s : ℕ) → listed r ≡ true → Fed r (map isOne l) s → eqb s 0 ≡ dividing r l
-fed-tells r l s h f = sym (dividing-is r l h ∙ fed-zero r (map isOne l) s f)
+pub fed-tells : (r : ℕ) (l : List ℕ) (s : ℕ) → listed r ≡ true → Fed r (map is_one l) s → eqb s 0 ≡ dividing r l
+fed-tells r l s h f = sym (dividing-is r l h ∙ fed-zero r (map is_one l) s f)
 
 -- ---- what `fits` tells
 
@@ -103,7 +103,7 @@ fitting-is k r room h e = rw (known-listed r h) (eq-eqb room (k + r) e)
 
 -- ---- what `append` leaves
 
-pub appending-is : (r : ℕ) (l out : List ℕ) → fitting (length l) r (length out) ≡ true → appending r l out ≡ l ++ map bit (remainder (poly r) (leads r ++ map isOne l))
+pub appending-is : (r : ℕ) (l out : List ℕ) → fitting (length l) r (length out) ≡ true → appending r l out ≡ l ++ map bit (remainder (poly r) (leads r ++ map is_one l))
 unfolding appending
 appending-is r l out h = rw h
 

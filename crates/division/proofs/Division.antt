@@ -25,7 +25,7 @@ use Rattle.bits.proofs.WordBits.{bit-suc, one_xor}
 use Rattle.meaning.specs.Limits.{leads}
 use Rattle.meaning.specs.Check.{poly, shift, rest, divides}
 use Rattle.meaning.specs.Payload.{remainder}
-use Rattle.meaning.specs.Answers.{isOne}
+use Rattle.meaning.specs.Answers.{is_one}
 use Rattle.meaning.proofs.Remainder.{rest_append, length-poly, scale_none}
 use Rattle.meaning.proofs.Ones.{starts_from}
 use Rattle.division.specs.Division.{to_bits, poly_word, Fed}
@@ -158,21 +158,21 @@ pub length-small : (r : ℕ) → (r ≡ 0) ⊎ ((r ≡ 6) ⊎ (r ≡ 11)) → (r
 length-small r = ⊎_elim (λ e. rw e (omega arith, omega arith)) (⊎_elim (λ e. rw e (omega arith, omega arith)) (λ e. rw e (omega arith, omega arith)))
 
 module _ (l : List ℕ) (i : ℕ) (h : i < length l) where
-  taken : map isOne (take (i + 1) l) ≡ map isOne (take i l) ++ (isOne (get_or l i 0) ∷ [])
-  taken = rw (add-one i, take-suc l i 0 h) (map-append isOne (take i l) (get_or l i 0 ∷ []))
+  taken : map is_one (take (i + 1) l) ≡ map is_one (take i l) ++ (is_one (get_or l i 0) ∷ [])
+  taken = rw (add-one i, take-suc l i 0 h) (map-append is_one (take i l) (get_or l i 0 ∷ []))
 
-  module _ (r s x : ℕ) (e : x ≡ bit (isOne (get_or l i 0))) (d : Divisor r) (f : Fed r (map isOne (take i l)) s) where
-    pub feed_over : 2 ^ r ≤ s * 2 + x → Fed r (map isOne (take (i + 1) l)) (bit_xor (s * 2 + x) (poly_word r))
+  module _ (r s x : ℕ) (e : x ≡ bit (is_one (get_or l i 0))) (d : Divisor r) (f : Fed r (map is_one (take i l)) s) where
+    pub feed_over : 2 ^ r ≤ s * 2 + x → Fed r (map is_one (take (i + 1) l)) (bit_xor (s * 2 + x) (poly_word r))
     feed_over k =
-        let b : Bool = isOne (get_or l i 0) in
+        let b : Bool = is_one (get_or l i 0) in
         let (low, q) = step-over r s b d f.small (rw e at k) in
-        rw (taken, e) (more r (map isOne (take i l)) s (bit_xor (s * 2 + bit b) (poly_word r)) b f low q)
+        rw (taken, e) (more r (map is_one (take i l)) s (bit_xor (s * 2 + bit b) (poly_word r)) b f low q)
 
-    pub feed_under : s * 2 + x < 2 ^ r → Fed r (map isOne (take (i + 1) l)) (s * 2 + x)
+    pub feed_under : s * 2 + x < 2 ^ r → Fed r (map is_one (take (i + 1) l)) (s * 2 + x)
     feed_under k =
-        let b : Bool = isOne (get_or l i 0) in
+        let b : Bool = is_one (get_or l i 0) in
         let low : s * 2 + bit b < 2 ^ r = rw e at k in
-        rw (taken, e) (more r (map isOne (take i l)) s (s * 2 + bit b) b f low (step_under r s b d f.small low))
+        rw (taken, e) (more r (map is_one (take i l)) s (s * 2 + bit b) b f low (step_under r s b d f.small low))
 
 -- every sequence with remainder `start` has, with i zeros more, remainder s
 abbrev pub Flushed : ℕ → ℕ → ℕ → ℕ → Type 0

@@ -10,7 +10,7 @@ use Rattle.bits.specs.Words.{bit_at}
 use Rattle.meaning.specs.Limits.{leads}
 use Rattle.meaning.specs.Check.{poly, rest, divides}
 use Rattle.meaning.specs.Payload.{remainder}
-use Rattle.meaning.specs.Answers.{isOne}
+use Rattle.meaning.specs.Answers.{is_one}
 
 -- the r lowest bits of s, highest first
 unfoldable pub to_bits : ℕ → ℕ → List Bool
@@ -34,7 +34,7 @@ unfoldable pub fitting : ℕ → ℕ → ℕ → Bool
 fitting len r room = listed r && eqb room (len + r)
 
 unfoldable pub dividing : ℕ → List ℕ → Bool
-dividing r l = listed r && divides r (leads r ++ map isOne l)
+dividing r l = listed r && divides r (leads r ++ map is_one l)
 
 unfoldable pub appending : ℕ → List ℕ → List ℕ → List ℕ
-appending r l out = pick (fitting (length l) r (length out)) (l ++ map bit (remainder (poly r) (leads r ++ map isOne l))) out
+appending r l out = pick (fitting (length l) r (length out)) (l ++ map bit (remainder (poly r) (leads r ++ map is_one l))) out

@@ -1,7 +1,7 @@
 // The check: division by the check polynomial, one bit at a time. The remainder so far is a word of r bits, D^(r-1) highest.
 // A byte counts as the bit 1 where it is 1, and as 0 otherwise.
 ghost use Rattle.std.specs.Prelude.{◌≡◌, ◌⊎◌, Bool, false, List, map, ◌++◌, ◌+◌, ◌≤◌, ◌<◌, ◌^◌, length, replicate};
-ghost use Rattle.meaning.specs.Answers.{isOne};
+ghost use Rattle.meaning.specs.Answers.{is_one};
 ghost use Rattle.meaning.specs.Limits.{leads};
 ghost use Rattle.meaning.specs.Check.{poly};
 ghost use Rattle.meaning.specs.Payload.{remainder};
@@ -21,7 +21,7 @@ fn polynomial(r: usize) -> u64
 
 // The bit of a byte.
 fn one(x: u8) -> u64
-    ensures { result ≡ bit (isOne x) }
+    ensures { result ≡ bit (is_one x) }
 {
     if x == 1 { 1 } else { 0 }
 }
@@ -30,7 +30,7 @@ fn one(x: u8) -> u64
 // shifted in and, where a 1 goes out, the polynomial is subtracted.
 fn feed(bits: &[u8], r: usize) -> u64
     requires { (r ≡ 0) ⊎ ((r ≡ 6) ⊎ (r ≡ 11)) }
-    ensures { Fed r (map isOne bits.now) result }
+    ensures { Fed r (map is_one bits.now) result }
 {
     let p = polynomial(r);
     let limit = 1 << r;
@@ -79,7 +79,7 @@ fn spell(s: u64, out: &mut [u8])
 fn attach(bits: &[u8], r: usize, out: &mut [u8])
     requires fact { (r ≡ 0) ⊎ ((r ≡ 6) ⊎ (r ≡ 11)) }
     requires out_len { length out.old ≡ length bits.now + r }
-    ensures { out.new ≡ bits.now ++ map bit (remainder (poly r) (leads r ++ map isOne bits.now)) }
+    ensures { out.new ≡ bits.now ++ map bit (remainder (poly r) (leads r ++ map is_one bits.now)) }
 {
     bytes::copy(bits, out);
     let s = flush(feed(bits, r), r);

@@ -16,7 +16,7 @@ use Rattle.meaning.specs.Check.{poly, keeps}
 use Rattle.meaning.specs.Codewords.{erased, codewords, candidates, payload_of, carrying}
 use Rattle.meaning.specs.Open.{open_free, closed_frozen, open_all, opens, unknowns, equations}
 use Rattle.meaning.specs.Strips.{settled, strips, dimension}
-use Rattle.meaning.specs.Answers.{Reply, ◌⇒◌, first_of, badShape, badCheck, sheetRefusals, wordRefusals, formRefusals, decodeRefusals, encodeRefusals, leaving, verdict, encoding, decoding}
+use Rattle.meaning.specs.Answers.{Reply, ◌⇒◌, first_of, bad_shape, bad_check, sheet_refusals, word_refusals, form_refusals, decode_refusals, encode_refusals, leaving, verdict, encoding, decoding}
 use Rattle.meaning.specs.Bench.{Row, encodes, decodes, digits, held, replies, rows, holds}
 use Rattle.meaning.specs.declared.Answer.TheVariants.{TooMany}
 use Rattle.meaning.proofs.Open.{open_list}
@@ -26,10 +26,10 @@ decoding_by : List Bool → ℕ → List ℕ → ℕ → ℕ → List ℕ → Li
 decoding_by o n s r c w out =
     let ks = rules n s in
     let g = ones (open_free ks o) in
-    first_of (leaving out) (formRefusals n s r c w (length out) ++ ((ltb c g ⇒ TooMany g) ∷ [])) (verdict n g (ones (closed_frozen ks o) + r) (candidates n ks r w) out)
+    first_of (leaving out) (form_refusals n s r c w (length out) ++ ((ltb c g ⇒ TooMany g) ∷ [])) (verdict n g (ones (closed_frozen ks o) + r) (candidates n ks r w) out)
 
 by_halves : (n : ℕ) (s : List ℕ) (r c : ℕ) (w out : List ℕ) → length w ≡ 2 ^ n → decoding n s r c w out ≡ decoding_by (opens n (map erased w)) n s r c w out
-unfolding decoding_by decoding decodeRefusals unknowns equations open_all
+unfolding decoding_by decoding decode_refusals unknowns equations open_all
 by_halves n s r c w out l = ap (λ (o : List Bool). decoding_by o n s r c w out) (open_list n (map erased w) (length-map w erased ∙ l))
 
 computes : Row → Bool
@@ -56,11 +56,11 @@ all_split p (suc k) (a ∷ l) h t = and_i _ _ (and_l (p a) _ h) (all_split p k l
 
 -- in two halves, which takes the less memory
 first_rows : all computes (take 7 rows) ≡ true
-unfolding computes holds rows decoding_by encoding encodeRefusals formRefusals sheetRefusals wordRefusals badShape badCheck bad_record fine verdict strips settled dimension carrying payload_of candidates codewords keeps poly all_bits polar opens rules rule_at mask names largest_n mask_bytes record_bytes largest_ceiling leads
+unfolding computes holds rows decoding_by encoding encode_refusals form_refusals sheet_refusals word_refusals bad_shape bad_check bad_record fine verdict strips settled dimension carrying payload_of candidates codewords keeps poly all_bits polar opens rules rule_at mask names largest_n mask_bytes record_bytes largest_ceiling leads
 first_rows = refl
 
 last-rows : all computes (drop 7 rows) ≡ true
-unfolding computes holds rows decoding_by encoding encodeRefusals formRefusals sheetRefusals wordRefusals badShape badCheck bad_record fine verdict strips settled dimension carrying payload_of candidates codewords keeps poly all_bits polar opens rules rule_at mask names largest_n mask_bytes record_bytes largest_ceiling leads
+unfolding computes holds rows decoding_by encoding encode_refusals form_refusals sheet_refusals word_refusals bad_shape bad_check bad_record fine verdict strips settled dimension carrying payload_of candidates codewords keeps poly all_bits polar opens rules rule_at mask names largest_n mask_bytes record_bytes largest_ceiling leads
 last-rows = refl
 
 pub table : all holds rows ≡ true

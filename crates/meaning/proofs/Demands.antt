@@ -25,7 +25,7 @@ use Rattle.meaning.specs.Sheet.{Rule, rules}
 use Rattle.meaning.specs.Codewords.{erased, candidates}
 use Rattle.meaning.specs.Open.{open_all, unknowns, equations}
 use Rattle.meaning.specs.Strips.{log2, dimension, settled, settled_at, first, last, strips}
-use Rattle.meaning.specs.Answers.{numbersOf, first_of, refuses, formRefusals, decodeRefusals, Reply, leaving, verdict, decoding}
+use Rattle.meaning.specs.Answers.{numbers_of, first_of, refuses, form_refusals, decode_refusals, Reply, leaving, verdict, decoding}
 use Rattle.meaning.specs.declared.Answer.TheVariants.{TooMany}
 use Rattle.meaning.proofs.Refusals.{first_append, first-none}
 use Rattle.meaning.proofs.Dimension.{dimension_pow, dimension-is}
@@ -34,16 +34,16 @@ use Rattle.meaning.proofs.Coset.{same_number, same-settled}
 -- ---- the five numbers of a reply
 
 abbrev pub code : Reply → ℕ
-code a = get_or (numbersOf a.answer) 0 0
+code a = get_or (numbers_of a.answer) 0 0
 
 abbrev pub g_of_lem : Reply → ℕ
-g_of_lem a = get_or (numbersOf a.answer) 2 0
+g_of_lem a = get_or (numbers_of a.answer) 2 0
 
 abbrev pub m_of_lem : Reply → ℕ
-m_of_lem a = get_or (numbersOf a.answer) 3 0
+m_of_lem a = get_or (numbers_of a.answer) 3 0
 
 abbrev pub d_of_lem : Reply → ℕ
-d_of_lem a = get_or (numbersOf a.answer) 4 0
+d_of_lem a = get_or (numbers_of a.answer) 4 0
 
 pub at : (k : ℕ) {x y : List ℕ} → x ≡ y → get_or x k 0 ≡ get_or y k 0
 at k p = ap (λ (l : List ℕ). get_or l k 0) p
@@ -61,7 +61,7 @@ d_by (suc zero) = 0
 d_by (suc (suc k)) = log2 (suc (suc k)) (suc (suc k))
 
 module _ (n g m : ℕ) (out : List ℕ) where
-  pub verdict_numbers : (cs : List (List Bool)) → numbersOf (verdict n g m cs out).answer ≡ code_by (length cs) ∷ 0 ∷ g ∷ m ∷ d_by (length cs) ∷ []
+  pub verdict_numbers : (cs : List (List Bool)) → numbers_of (verdict n g m cs out).answer ≡ code_by (length cs) ∷ 0 ∷ g ∷ m ∷ d_by (length cs) ∷ []
   unfolding verdict dimension
   verdict_numbers [] = refl
   verdict_numbers (x ∷ []) = refl
@@ -131,15 +131,15 @@ module _ (n : ℕ) (s : List ℕ) (r c : ℕ) (w out : List ℕ) where
   abbrev pub decided : Reply
   decided = pick (ltb c g) (leaving out (TooMany g)) (verdict n g m cs out)
 
-  pub by_form : decoding n s r c w out ≡ first_of (leaving out) (formRefusals n s r c w (length out)) decided
-  unfolding decoding decodeRefusals
-  by_form = first_append (leaving out) (formRefusals n s r c w (length out)) _ (verdict n g m cs out)
+  pub by_form : decoding n s r c w out ≡ first_of (leaving out) (form_refusals n s r c w (length out)) decided
+  unfolding decoding decode_refusals
+  by_form = first_append (leaving out) (form_refusals n s r c w (length out)) _ (verdict n g m cs out)
 
   -- ---- no fault of form
 
-  module _ (ok : refuses (formRefusals n s r c w (length out)) ≡ false) where
+  module _ (ok : refuses (form_refusals n s r c w (length out)) ≡ false) where
     judged : decoding n s r c w out ≡ decided
-    judged = by_form ∙ first-none (leaving out) (formRefusals n s r c w (length out)) _ ok
+    judged = by_form ∙ first-none (leaving out) (form_refusals n s r c w (length out)) _ ok
 
     pub over : c < g → decoding n s r c w out ≡ leaving out (TooMany g)
     over h = judged ∙ rw (lt-ltb c g h)
@@ -147,8 +147,8 @@ module _ (n : ℕ) (s : List ℕ) (r c : ℕ) (w out : List ℕ) where
     pub under : g ≤ c → decoding n s r c w out ≡ verdict n g m cs out
     under h = judged ∙ rw (le-ltb c g h)
 
-    numbers_under : g ≤ c → numbersOf (decoding n s r c w out).answer ≡ code_by (length cs) ∷ 0 ∷ g ∷ m ∷ d_by (length cs) ∷ []
-    numbers_under h = ap (λ (a : Reply). numbersOf a.answer) (under h) ∙ verdict_numbers n g m out cs
+    numbers_under : g ≤ c → numbers_of (decoding n s r c w out).answer ≡ code_by (length cs) ∷ 0 ∷ g ∷ m ∷ d_by (length cs) ∷ []
+    numbers_under h = ap (λ (a : Reply). numbers_of a.answer) (under h) ∙ verdict_numbers n g m out cs
 
     -- demand 2: refused for size exactly when its unknowns pass the ceiling
     pub over_iff : (code (decoding n s r c w out) ≡ 18) ↔ (c < g)
@@ -159,13 +159,13 @@ module _ (n : ℕ) (s : List ℕ) (r c : ℕ) (w out : List ℕ) where
         go false q e = absurd (code-not_18 (length cs) (sym (at 0 (numbers_under (ltb-false c g q))) ∙ e))
 
     module _ (h : g ≤ c) where
-      pub unique_iff : (numbersOf (decoding n s r c w out).answer ≡ 0 ∷ 0 ∷ g ∷ m ∷ 0 ∷ []) ↔ (length cs ≡ 1)
+      pub unique_iff : (numbers_of (decoding n s r c w out).answer ≡ 0 ∷ 0 ∷ g ∷ m ∷ 0 ∷ []) ↔ (length cs ≡ 1)
       unique_iff = (λ e. code_one (length cs) (at 0 (sym (numbers_under h) ∙ e)), λ e. numbers_under h ∙ rw e)
 
-      pub inconsistent_iff : (numbersOf (decoding n s r c w out).answer ≡ 2 ∷ 0 ∷ g ∷ m ∷ 0 ∷ []) ↔ (length cs ≡ 0)
+      pub inconsistent_iff : (numbers_of (decoding n s r c w out).answer ≡ 2 ∷ 0 ∷ g ∷ m ∷ 0 ∷ []) ↔ (length cs ≡ 0)
       inconsistent_iff = (λ e. code-none (length cs) (at 0 (sym (numbers_under h) ∙ e)), λ e. numbers_under h ∙ rw e)
 
-      pub ambiguous_iff : (d : ℕ) → (numbersOf (decoding n s r c w out).answer ≡ 1 ∷ 0 ∷ g ∷ m ∷ d ∷ []) ↔ ((1 ≤ d) × (length cs ≡ 2 ^ d))
+      pub ambiguous_iff : (d : ℕ) → (numbers_of (decoding n s r c w out).answer ≡ 1 ∷ 0 ∷ g ∷ m ∷ d ∷ []) ↔ ((1 ≤ d) × (length cs ≡ 2 ^ d))
       unfolding dimension
       ambiguous_iff d = (
         λ e.
@@ -211,7 +211,7 @@ module _ (n : ℕ) (s : List ℕ) (r : ℕ) (w w' : List ℕ) (e : map erased w 
   unfolding equations open_all
   same-equations = rw e
 
-  pub demand_3 : (c : ℕ) (out out' : List ℕ) → refuses (formRefusals n s r c w (length out)) ≡ false → refuses (formRefusals n s r c w' (length out')) ≡ false
+  pub demand_3 : (c : ℕ) (out out' : List ℕ) → refuses (form_refusals n s r c w (length out)) ≡ false → refuses (form_refusals n s r c w' (length out')) ≡ false
       → SameFate n (decoding n s r c w out) (decoding n s r c w' out')
   demand_3 c out out' ok ok' = go (ltb c g₁) refl
     where

@@ -10,12 +10,12 @@ use Rattle.bits.specs.Vectors.{all_bits, filter}
 use Rattle.meaning.specs.Limits.{leads}
 use Rattle.meaning.specs.Sheet.{free, frozen}
 use Rattle.meaning.specs.Check.{poly, shift, keeps}
-use Rattle.meaning.specs.Answers.{isOne}
+use Rattle.meaning.specs.Answers.{is_one}
 use Rattle.meaning.specs.Bench.{digits}
 
 -- k bits, written as a decimal number
 abbrev written : ℕ → ℕ → List Bool
-written k n = map isOne (digits k n [])
+written k n = map is_one (digits k n [])
 
 -- what is left after each bit
 abbrev lefts : List Bool → List Bool → List Bool → List (List Bool)

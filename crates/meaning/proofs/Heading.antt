@@ -10,12 +10,12 @@ use lib.ListN.{length, get_or, replicate}
 use Rattle.bits.specs.Vectors.{tab}
 use Rattle.bits.proofs.Tests.{tab-get_or}
 use Rattle.meaning.specs.Limits.{head_bytes}
-use Rattle.meaning.specs.Answers.{numbersOf}
+use Rattle.meaning.specs.Answers.{numbers_of}
 use Rattle.meaning.specs.Stream.{two_bytes, header}
 use Rattle.meaning.specs.declared.Answer.{Answer}
 use Rattle.meaning.specs.declared.Answer.TheVariants.{Done, Unique, Ambiguous, Inconsistent, LaneInconsistent, BadShape, BadRecord, BadCheck, BadLength, BadSymbol, ShortOutput, BadCeiling, TooMany, HoldsNothing}
 
-pub numbers_five : (a : Answer) → length (numbersOf a) ≡ 5
+pub numbers_five : (a : Answer) → length (numbers_of a) ≡ 5
 numbers_five Done = refl
 numbers_five (Unique g m) = refl
 numbers_five (Ambiguous g m d) = refl
@@ -31,7 +31,7 @@ numbers_five BadCeiling = refl
 numbers_five (TooMany g) = refl
 numbers_five HoldsNothing = refl
 
-module _ (a : Answer) (v : List ℕ) (e : v ≡ numbersOf a) where
+module _ (a : Answer) (v : List ℕ) (e : v ≡ numbers_of a) where
   five : length v ≡ 5
   five = ap length e ∙ numbers_five a
 
@@ -47,4 +47,4 @@ two_bytes_lem x h = omega arith
 
 pub header-long : (a : Answer) → length (header a) ≡ head_bytes
 unfolding flatten head_bytes
-header-long a = ap length (sym (headed a (numbersOf a) refl))
+header-long a = ap length (sym (headed a (numbers_of a) refl))

@@ -18,7 +18,7 @@ use Rattle.meaning.specs.Check.{free_bits, keeps}
 use Rattle.meaning.specs.Codewords.{erased, agrees, candidates}
 use Rattle.meaning.specs.Payload.{encoded}
 use Rattle.meaning.specs.Open.{unknowns, equations}
-use Rattle.meaning.specs.Answers.{numbersOf, refuses, badShape, sheetRefusals, encodeRefusals, readRefusals, formRefusals, decodeRefusals, leaving, checking, encoding, readingBack, decoding}
+use Rattle.meaning.specs.Answers.{numbers_of, refuses, bad_shape, sheet_refusals, encode_refusals, read_refusals, form_refusals, decode_refusals, leaving, checking, encoding, reading_back, decoding}
 use Rattle.meaning.specs.declared.Answer.TheVariants.{HoldsNothing}
 use Rattle.meaning.proofs.Polar.{length-polar, polar-polar}
 use Rattle.meaning.proofs.Sound.{length-rules}
@@ -29,26 +29,26 @@ use Rattle.meaning.proofs.Demands.{unique_iff}
 
 -- ---- K = 0
 
-module _ (n : ℕ) (s : List ℕ) (r : ℕ) (shape : badShape n s ≡ false) (sound : ltb (bad_record n s) (2 ^ n) ≡ false) (none : frees (rules n s) ≡ 0) where
+module _ (n : ℕ) (s : List ℕ) (r : ℕ) (shape : bad_shape n s ≡ false) (sound : ltb (bad_record n s) (2 ^ n) ≡ false) (none : frees (rules n s) ≡ 0) where
   pub nothing-checked : checking n s r ≡ HoldsNothing
-  unfolding checking sheetRefusals
+  unfolding checking sheet_refusals
   nothing-checked = rw (shape, sound, none)
 
   pub nothing-encoded : (p out : List ℕ) → encoding n s r p out ≡ leaving out HoldsNothing
-  unfolding encoding encodeRefusals sheetRefusals
+  unfolding encoding encode_refusals sheet_refusals
   nothing-encoded p out = rw (shape, sound, none)
 
-  pub nothing_read : (w out : List ℕ) → readingBack n s r w out ≡ leaving out HoldsNothing
-  unfolding readingBack readRefusals sheetRefusals
+  pub nothing_read : (w out : List ℕ) → reading_back n s r w out ≡ leaving out HoldsNothing
+  unfolding reading_back read_refusals sheet_refusals
   nothing_read w out = rw (shape, sound, none)
 
   pub nothing-decoded : (c : ℕ) (w out : List ℕ) → decoding n s r c w out ≡ leaving out HoldsNothing
-  unfolding decoding decodeRefusals formRefusals sheetRefusals
+  unfolding decoding decode_refusals form_refusals sheet_refusals
   nothing-decoded c w out = rw (shape, sound, none)
 
 -- ---- a sheet that is not refused
 
-pub payload_held : (n : ℕ) (s : List ℕ) (r : ℕ) → refuses (sheetRefusals n s r) ≡ false → 1 ≤ frees (rules n s) - r
+pub payload_held : (n : ℕ) (s : List ℕ) (r : ℕ) → refuses (sheet_refusals n s r) ≡ false → 1 ≤ frees (rules n s) - r
 payload_held n s r ok = omega (arith, (good n s r ok).holding)
 
 all-agree : (w : List ℕ) (x : List Bool) → all erased w ≡ true → agrees w x ≡ true
@@ -95,6 +95,6 @@ module _ (n : ℕ) (s : List ℕ) (r : ℕ) (w : List ℕ) (ok : Good n s r) (lo
   pub lost_several : 1 < length (candidates n ks r w)
   lost_several = two_differ (candidates n ks r w) (polar n (us true)) (polar n (us false)) (member true) (member false) differ
 
-pub lost-not_unique : (n : ℕ) (s : List ℕ) (r c : ℕ) (w out : List ℕ) → refuses (formRefusals n s r c w (length out)) ≡ false → unknowns n (rules n s) w ≤ c → all erased w ≡ true
-    → numbersOf (decoding n s r c w out).answer ≡ 0 ∷ 0 ∷ unknowns n (rules n s) w ∷ equations n (rules n s) r w ∷ 0 ∷ [] → ⊥
+pub lost-not_unique : (n : ℕ) (s : List ℕ) (r c : ℕ) (w out : List ℕ) → refuses (form_refusals n s r c w (length out)) ≡ false → unknowns n (rules n s) w ≤ c → all erased w ≡ true
+    → numbers_of (decoding n s r c w out).answer ≡ 0 ∷ 0 ∷ unknowns n (rules n s) w ∷ equations n (rules n s) r w ∷ 0 ∷ [] → ⊥
 lost-not_unique n s r c w out ok h lost e = omega (arith, lost_several n s r w (form_parts n s r c w (length out) ok).0 lost, (unique_iff n s r c w out ok h).0 e)

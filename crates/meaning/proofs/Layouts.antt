@@ -6,7 +6,7 @@ use Prim.Native.Nat.{ℕ}
 use mathlib.Core.List.{List}
 use Rattle.meaning.specs.Limits.{layout}
 use Rattle.meaning.specs.Sheet.{names, mask, rule_at, rules, fine, bad_record, names_in, mask_in, rule_in, rules_in, fine_in, bad_in}
-use Rattle.meaning.specs.Answers.{badShape, sheetRefusals, checking, checkingIn}
+use Rattle.meaning.specs.Answers.{bad_shape, sheet_refusals, checking, checking_in}
 
 module _ (n : ℕ) (s : List ℕ) where
   pub rules_today : rules n s ≡ rules_in layout n s
@@ -17,6 +17,6 @@ module _ (n : ℕ) (s : List ℕ) where
   unfolding bad_record fine mask names bad_in fine_in mask_in names_in
   bad_today = refl
 
-  pub checking_today : (r : ℕ) → checking n s r ≡ checkingIn layout n s r
-  unfolding checking sheetRefusals badShape checkingIn
+  pub checking_today : (r : ℕ) → checking n s r ≡ checking_in layout n s r
+  unfolding checking sheet_refusals bad_shape checking_in
   checking_today r = rw (rules_today, bad_today)

@@ -13,7 +13,7 @@ use mathlib.Core.Bool.{Bool, true, false, ◌&&◌, ◌||◌, not, false≢true,
 use mathlib.Core.List.{List, [], ◌∷◌, ◌++◌, append-nil}
 use Rattle.bits.specs.Vectors.{pick, all}
 use Rattle.bits.proofs.Tests.{or_false_l, or_false_r, and_l, and_r}
-use Rattle.meaning.specs.Answers.{isDone, Refusal, first_of, refuses, fault, Reply, leaving}
+use Rattle.meaning.specs.Answers.{is_done, Refusal, first_of, refuses, fault, Reply, leaving}
 use Rattle.meaning.specs.declared.Answer.{Answer}
 use Rattle.meaning.specs.declared.Answer.TheVariants.{Done}
 
@@ -65,23 +65,23 @@ both-none (t ∷ a) b p q = rw (or_false_l t.applies _ p) (both-none a b (or_fal
 
 -- no row answers Done
 abbrev pub Telling : List Refusal → Bool
-Telling ts = all (λ (t : Refusal). not (isDone t.answer)) ts
+Telling ts = all (λ (t : Refusal). not (is_done t.answer)) ts
 
-pub tried_done : (ts : List Refusal) → Telling ts ≡ true → isDone (fault ts) ≡ true → refuses ts ≡ false
+pub tried_done : (ts : List Refusal) → Telling ts ≡ true → is_done (fault ts) ≡ true → refuses ts ≡ false
 tried_done [] h d = refl
-tried_done (t ∷ ts) h d = go t.applies (isDone t.answer) refl h d (tried_done ts)
+tried_done (t ∷ ts) h d = go t.applies (is_done t.answer) refl h d (tried_done ts)
   where
-    go : (b c : Bool) → isDone t.answer ≡ c → not c && Telling ts ≡ true → isDone (pick b t.answer (fault ts)) ≡ true → (Telling ts ≡ true → isDone (fault ts) ≡ true → refuses ts ≡ false) → b || refuses ts ≡ false
+    go : (b c : Bool) → is_done t.answer ≡ c → not c && Telling ts ≡ true → is_done (pick b t.answer (fault ts)) ≡ true → (Telling ts ≡ true → is_done (fault ts) ≡ true → refuses ts ≡ false) → b || refuses ts ≡ false
     go true true e k q f = absurd (false≢true k)
     go true false e k q f = absurd (false≢true (sym e ∙ q))
     go false c e k q f = f (and_r (not c) _ k) q
 
 -- an answer that is not Done is that of the first part, whatever follows
-pub tried_refused : {A : Type 0} (f : Answer → A) (ts us : List Refusal) (z : A) → isDone (fault ts) ≡ false → first_of f (ts ++ us) z ≡ f (fault ts)
+pub tried_refused : {A : Type 0} (f : Answer → A) (ts us : List Refusal) (z : A) → is_done (fault ts) ≡ false → first_of f (ts ++ us) z ≡ f (fault ts)
 tried_refused f [] us z h = absurd (true≢false h)
 tried_refused f (t ∷ ts) us z h = go t.applies h (tried_refused f ts us z)
   where
-    go : (b : Bool) → isDone (pick b t.answer (fault ts)) ≡ false → (isDone (fault ts) ≡ false → first_of f (ts ++ us) z ≡ f (fault ts)) → pick b (f t.answer) (first_of f (ts ++ us) z) ≡ f (pick b t.answer (fault ts))
+    go : (b : Bool) → is_done (pick b t.answer (fault ts)) ≡ false → (is_done (fault ts) ≡ false → first_of f (ts ++ us) z ≡ f (fault ts)) → pick b (f t.answer) (first_of f (ts ++ us) z) ≡ f (pick b t.answer (fault ts))
     go true k g = refl
     go false k g = g k
 
@@ -89,7 +89,7 @@ tried_refused f (t ∷ ts) us z h = go t.applies h (tried_refused f ts us z)
 pub past_none : {A : Type 0} (f : Answer → A) (ts us : List Refusal) (z : A) → refuses ts ≡ false → first_of f (ts ++ us) z ≡ first_of f us z
 past_none f ts us z h = first_append f ts us z ∙ first-none f ts (first_of f us z) h
 
-pub tried_all : {A : Type 0} (f : Answer → A) (ts : List Refusal) (z : A) → isDone (fault ts) ≡ false → first_of f ts z ≡ f (fault ts)
+pub tried_all : {A : Type 0} (f : Answer → A) (ts : List Refusal) (z : A) → is_done (fault ts) ≡ false → first_of f ts z ≡ f (fault ts)
 tried_all f ts z h = ap (λ (l : List Refusal). first_of f l z) (sym (append-nil ts)) ∙ tried_refused f ts [] z h
 
 -- the fixed order: a row that applies is given where none before it does
@@ -97,12 +97,12 @@ pub in_order : {A : Type 0} (f : Answer → A) (before after : List Refusal) (t 
 in_order f before after t z h k = past_none f before (t ∷ after) z h ∙ rw k
 
 -- a call that answers Done was refused by no row
-pub done_none : (out : List ℕ) (ts : List Refusal) (z : Reply) → Telling ts ≡ true → isDone (first_of (leaving out) ts z).answer ≡ true → refuses ts ≡ false
-done_none out ts z h d = go (isDone (fault ts)) refl
+pub done_none : (out : List ℕ) (ts : List Refusal) (z : Reply) → Telling ts ≡ true → is_done (first_of (leaving out) ts z).answer ≡ true → refuses ts ≡ false
+done_none out ts z h d = go (is_done (fault ts)) refl
   where
-    go : (b : Bool) → isDone (fault ts) ≡ b → refuses ts ≡ false
+    go : (b : Bool) → is_done (fault ts) ≡ b → refuses ts ≡ false
     go true e = tried_done ts h e
-    go false e = absurd (false≢true (sym e ∙ ap (λ (a : Reply). isDone a.answer) (sym (tried_all (leaving out) ts z e)) ∙ d))
+    go false e = absurd (false≢true (sym e ∙ ap (λ (a : Reply). is_done a.answer) (sym (tried_all (leaving out) ts z e)) ∙ d))
 
 -- a call that a row refuses leaves its buffer as found
 pub refused_untouched : (out : List ℕ) (ts : List Refusal) (z : Reply) → refuses ts ≡ true → (first_of (leaving out) ts z).bytes ≡ out

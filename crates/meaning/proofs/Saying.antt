@@ -19,7 +19,7 @@ use Rattle.meaning.specs.Transform.{polar}
 use Rattle.meaning.specs.Codewords.{erased, candidates, Agreeing, OneAgrees, NoneAgrees}
 use Rattle.meaning.specs.Open.{unknowns, equations}
 use Rattle.meaning.specs.Strips.{log2, dimension, strips}
-use Rattle.meaning.specs.Answers.{numbersOf, refuses, sheetRefusals, wordRefusals, formRefusals, Reply, reply, leaving, verdict, decoding}
+use Rattle.meaning.specs.Answers.{numbers_of, refuses, sheet_refusals, word_refusals, form_refusals, Reply, reply, leaving, verdict, decoding}
 use Rattle.meaning.specs.Said.{Said}
 use Rattle.meaning.specs.declared.Answer.{Answer}
 use Rattle.meaning.specs.declared.Answer.TheVariants.{TooMany}
@@ -103,7 +103,7 @@ module _ (n : ℕ) (s : List ℕ) (r c : ℕ) (w out : List ℕ) where
   m = equations n ks r w
 
   abbrev form : Bool
-  form = refuses (formRefusals n s r c w (length out))
+  form = refuses (form_refusals n s r c w (length out))
 
   abbrev D : Reply
   D = decoding n s r c w out
@@ -112,21 +112,21 @@ module _ (n : ℕ) (s : List ℕ) (r c : ℕ) (w out : List ℕ) where
   judged = verdict n g m (cs n ks r w) out
 
   abbrev SaidOf : Reply → Type 0
-  SaidOf t = Said n s r c w out (numbersOf t.answer) t.bytes
+  SaidOf t = Said n s r c w out (numbers_of t.answer) t.bytes
 
   -- a fault of form is neither 2 nor 18
   abbrev neither : ℕ → Bool
   neither k = not (eqb k 2 || eqb k 18)
 
   faulty : form ≡ true → neither (code D) ≡ true
-  unfolding formRefusals sheetRefusals wordRefusals
+  unfolding form_refusals sheet_refusals word_refusals
   faulty h =
-      let p : Answer → Bool = λ a. neither (get_or (numbersOf a) 0 0) in
-      ap (λ (t : Reply). p t.answer) (by_form n s r c w out) ∙ refused_is p out (formRefusals n s r c w (length out)) (decided n s r c w out) refl h
+      let p : Answer → Bool = λ a. neither (get_or (numbers_of a) 0 0) in
+      ap (λ (t : Reply). p t.answer) (by_form n s r c w out) ∙ refused_is p out (form_refusals n s r c w (length out)) (decided n s r c w out) refl h
 
   refused_said : form ≡ true → SaidOf D
   refused_said h =
-      let same : D.bytes ≡ out = ap (λ (t : Reply). t.bytes) (by_form n s r c w out) ∙ refused_untouched out (formRefusals n s r c w (length out)) _ h in
+      let same : D.bytes ≡ out = ap (λ (t : Reply). t.bytes) (by_form n s r c w out) ∙ refused_untouched out (form_refusals n s r c w (length out)) _ h in
       record {
         two_untouched = λ e. same;
         rest_stays = ap (drop (3 * 2 ^ n)) same;
@@ -189,5 +189,5 @@ module _ (n : ℕ) (s : List ℕ) (r c : ℕ) (w out : List ℕ) where
           (le_or_lt g c)
 
   -- of any result that the promise allows
-  pub result_said : (x : List ℕ) (a : Answer) → reply x a ≡ D → Said n s r c w out (numbersOf a) x
+  pub result_said : (x : List ℕ) (a : Answer) → reply x a ≡ D → Said n s r c w out (numbers_of a) x
   result_said x a p = subst SaidOf (sym p) said

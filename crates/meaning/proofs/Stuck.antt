@@ -22,7 +22,7 @@ use Rattle.meaning.specs.Sheet.{Rule, free, frozen, rules}
 use Rattle.meaning.specs.Check.{keeps_rules, free_bits, shift, rest, poly, divides, keeps}
 use Rattle.meaning.specs.Codewords.{candidates, payload_of}
 use Rattle.meaning.specs.Open.{unknowns, equations}
-use Rattle.meaning.specs.Answers.{isOne, refuses, formRefusals, readRefusals, leaving, writing, verdict, decoding, readingBack}
+use Rattle.meaning.specs.Answers.{is_one, refuses, form_refusals, read_refusals, leaving, writing, verdict, decoding, reading_back}
 use Rattle.meaning.specs.declared.Answer.TheVariants.{Done, Inconsistent}
 use Rattle.meaning.proofs.Open.{polar-none}
 use Rattle.meaning.proofs.Gap.{nothing-lost}
@@ -190,14 +190,14 @@ module _ (n : ℕ) (s : List ℕ) (r : ℕ) (out : List ℕ) (k : Check r) where
   abbrev stuck : List ℕ
   stuck = replicate (2 ^ n) 0
 
-  pub stuck_decoded : (c : ℕ) → refuses (formRefusals n s r c stuck (length out)) ≡ false → decoding n s r c stuck out ≡ leaving out (Inconsistent 0 (equations n (rules n s) r stuck))
+  pub stuck_decoded : (c : ℕ) → refuses (form_refusals n s r c stuck (length out)) ≡ false → decoding n s r c stuck out ≡ leaving out (Inconsistent 0 (equations n (rules n s) r stuck))
   unfolding verdict
   stuck_decoded c ok =
       let g : unknowns n (rules n s) stuck ≡ 0 = ap (unknowns n (rules n s)) (zero_bits (2 ^ n)) ∙ nothing-lost n (rules n s) (none (2 ^ n)) (length_none (2 ^ n)) in
       under n s r c stuck out ok (omega arith) ∙ ap₂ (λ (g : ℕ) (cs : List (List Bool)). verdict n g (equations n (rules n s) r stuck) cs out) g (stuck_alone n (rules n s) r k)
 
-  pub stuck_read : refuses (readRefusals n s r stuck (length out)) ≡ false → readingBack n s r stuck out ≡ leaving out (Inconsistent 0 0)
+  pub stuck_read : refuses (read_refusals n s r stuck (length out)) ≡ false → reading_back n s r stuck out ≡ leaving out (Inconsistent 0 0)
   stuck_read ok =
-      let word : map isOne stuck ≡ none (2 ^ n) = ap (map isOne) (zero_bits (2 ^ n)) ∙ ones_back (none (2 ^ n)) in
-      let no : keeps (rules n s) r (polar n (map isOne stuck)) ≡ false = ap (λ (x : List Bool). keeps (rules n s) r (polar n x)) word ∙ stuck_kept n (rules n s) r k in
-      read_is n s r stuck out ok ∙ ap (λ (t : Bool). pick t (writing (map bit (payload_of n (rules n s) r (map isOne stuck))) out Done) (leaving out (Inconsistent 0 0))) no
+      let word : map is_one stuck ≡ none (2 ^ n) = ap (map is_one) (zero_bits (2 ^ n)) ∙ ones_back (none (2 ^ n)) in
+      let no : keeps (rules n s) r (polar n (map is_one stuck)) ≡ false = ap (λ (x : List Bool). keeps (rules n s) r (polar n x)) word ∙ stuck_kept n (rules n s) r k in
+      read_is n s r stuck out ok ∙ ap (λ (t : Bool). pick t (writing (map bit (payload_of n (rules n s) r (map is_one stuck))) out Done) (leaving out (Inconsistent 0 0))) no

@@ -84,16 +84,16 @@ fault ts = first_of (λ (a : Answer). a) ts Done
 abbrev pub bad_shape_in : Layout → ℕ → List ℕ → Bool
 bad_shape_in L n s = ltb L.largest n || not (eqb (length s) (2 ^ n * L.bytes))
 
-unfoldable pub badShape : ℕ → List ℕ → Bool
-badShape n s = bad_shape_in layout n s
+unfoldable pub bad_shape : ℕ → List ℕ → Bool
+bad_shape n s = bad_shape_in layout n s
 
 -- there is a check of length r
 abbrev pub check_length : ℕ → Bool
 check_length r = eqb r 0 || eqb r 6 || eqb r 11
 
 -- 13: r not 0, 6, 11, or r > 0 and K ≤ r
-unfoldable pub badCheck : ℕ → ℕ → Bool
-badCheck r k = not (check_length r) || (ltb 0 r && leb k r)
+unfoldable pub bad_check : ℕ → ℕ → Bool
+bad_check r k = not (check_length r) || (ltb 0 r && leb k r)
 
 -- the sheet's faults, in every call: 11, 12, 19 (no free position), 13; of its shape, its first bad record, and K
 abbrev pub sheet_faults : ℕ → ℕ → Bool → ℕ → ℕ → List Refusal
@@ -101,11 +101,11 @@ sheet_faults n r shape bad k =
     (shape ⇒ BadShape)
     ∷ (ltb bad (2 ^ n) ⇒ BadRecord bad)
     ∷ (eqb k 0 ⇒ HoldsNothing)
-    ∷ (badCheck r k ⇒ BadCheck)
+    ∷ (bad_check r k ⇒ BadCheck)
     ∷ []
 
 unfoldable pub sheet_refusals : ℕ → List ℕ → ℕ → List Refusal
-sheet_refusals n s r = sheet_faults n r (badShape n s) (bad_record n s) (frees (rules n s))
+sheet_refusals n s r = sheet_faults n r (bad_shape n s) (bad_record n s) (frees (rules n s))
 
 -- 14, 15, 16: a word not as long as wanted, its first symbol above the top, an output shorter than needed
 unfoldable pub word_refusals : ℕ → ℕ → ℕ → List ℕ → ℕ → List Refusal

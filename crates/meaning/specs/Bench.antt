@@ -2,7 +2,7 @@
 -- Each row names the sheet's bytes, the payload or the word, and the answer in full: the five numbers and every byte of a buffer that held 165.
 use Rattle.std.specs.Prelude.{ℕ, zero, suc, ◌*◌, ◌-◌, ◌/◌, ◌%◌, Bool, true, false, ◌&&◌, List, [], ◌∷◌, ◌++◌, length, drop, replicate, eqb}
 use Rattle.meaning.specs.Limits.{mask_bytes, record_bytes}
-use Rattle.meaning.specs.Answers.{Reply, numbersOf, encoding, decoding}
+use Rattle.meaning.specs.Answers.{Reply, numbers_of, encoding, decoding}
 
 -- the decimal digits of a number, k of them
 abbrev pub digits : ℕ → ℕ → List ℕ → List ℕ
@@ -75,7 +75,7 @@ held k = replicate (suc (suc k)) 165
 
 -- the reply has these numbers, and the buffer holds these bytes and is else as found
 abbrev pub replies : Reply → List ℕ → List ℕ → ℕ → Bool
-replies a nums new k = alike (numbersOf a.answer) nums && alike a.bytes (new ++ drop (length new) (held k))
+replies a nums new k = alike (numbers_of a.answer) nums && alike a.bytes (new ++ drop (length new) (held k))
 
 unfoldable pub holds : Row → Bool
 holds (encodes p x) = replies (encoding 3 sheet_e 0 (digits 4 p []) (held 8)) (five 0 0 0 0) (digits 8 x []) 8

@@ -6,7 +6,7 @@ use Rattle.bits.specs.Vectors.{ones}
 use Rattle.meaning.specs.Sheet.{rules}
 use Rattle.meaning.specs.Codewords.{erased, OneAgrees, NoneAgrees}
 use Rattle.meaning.specs.Open.{unknowns}
-use Rattle.meaning.specs.Answers.{refuses, formRefusals}
+use Rattle.meaning.specs.Answers.{refuses, form_refusals}
 
 pub record Said (n : ℕ) (s : List ℕ) (r c : ℕ) (w out v x : List ℕ) : Type 0 where
   -- 2: the output is untouched
@@ -16,8 +16,8 @@ pub record Said (n : ℕ) (s : List ℕ) (r c : ℕ) (w out v x : List ℕ) : Ty
   -- 18 carries g, which is above the ceiling; the output is untouched
   pub size_told : get_or v 0 0 ≡ 18 → (get_or v 2 0 ≡ unknowns n (rules n s) w) × (c < unknowns n (rules n s) w) × (x ≡ out)
   -- where no refusal but 18 applies, code 0 exactly when one codeword agrees, and g is not above the ceiling
-  pub one_agrees : refuses (formRefusals n s r c w (length out)) ≡ false → (get_or v 0 0 ≡ 0) ↔ ((unknowns n (rules n s) w ≤ c) × OneAgrees n (rules n s) r w)
+  pub one_agrees : refuses (form_refusals n s r c w (length out)) ≡ false → (get_or v 0 0 ≡ 0) ↔ ((unknowns n (rules n s) w ≤ c) × OneAgrees n (rules n s) r w)
   -- and code 2 exactly when none does
-  pub none-agrees : refuses (formRefusals n s r c w (length out)) ≡ false → (get_or v 0 0 ≡ 2) ↔ ((unknowns n (rules n s) w ≤ c) × NoneAgrees n (rules n s) r w)
+  pub none-agrees : refuses (form_refusals n s r c w (length out)) ≡ false → (get_or v 0 0 ≡ 2) ↔ ((unknowns n (rules n s) w ≤ c) × NoneAgrees n (rules n s) r w)
   -- d ≤ g ≤ erased symbols
-  pub counts : refuses (formRefusals n s r c w (length out)) ≡ false → (get_or v 4 0 ≤ get_or v 2 0) × (get_or v 2 0 ≤ ones (map erased w))
+  pub counts : refuses (form_refusals n s r c w (length out)) ≡ false → (get_or v 4 0 ≤ get_or v 2 0) × (get_or v 2 0 ≤ ones (map erased w))

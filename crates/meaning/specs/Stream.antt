@@ -12,7 +12,7 @@ use Rattle.std.specs.Prelude.{ℕ, suc, min, ◌+◌, ◌*◌, ◌-◌, ◌/◌,
 use mathlib.Core.List.{List, [], ◌∷◌, ◌++◌, map, flatten}
 use Rattle.bits.specs.Vectors.{pick, tab, first_place}
 use Rattle.meaning.specs.Limits.{Layout, layout, largest_n, head_bytes, strip_width}
-use Rattle.meaning.specs.Answers.{numbersOf, Reply, ◌⇒◌, first_of, leaving, writing, decoding}
+use Rattle.meaning.specs.Answers.{numbers_of, Reply, ◌⇒◌, first_of, leaving, writing, decoding}
 use Rattle.meaning.specs.declared.Answer.{Answer}
 use Rattle.meaning.specs.declared.Answer.TheVariants.{Done, BadShape, BadCheck, ShortOutput}
 
@@ -24,7 +24,7 @@ two_bytes x = x % 256 ∷ x / 256 % 256 ∷ []
 
 -- code, place, g, m, d, two bytes each; the rest zero
 abbrev pub header : Answer → List ℕ
-header a = flatten (map two_bytes (numbersOf a)) ++ replicate (head_bytes - 10) 0
+header a = flatten (map two_bytes (numbers_of a)) ++ replicate (head_bytes - 10) 0
 
 -- its bytes: the header, then three strips
 unfoldable pub answer_bytes : ℕ

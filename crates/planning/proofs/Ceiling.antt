@@ -14,7 +14,7 @@ use Rattle.bits.proofs.Tests.{le_or_lt}
 use Rattle.meaning.specs.Limits.{largest_ceiling}
 use Rattle.meaning.specs.Sheet.{rules}
 use Rattle.meaning.specs.Open.{unknowns}
-use Rattle.meaning.specs.Answers.{Refusal, first_of, refuses, formRefusals, Reply, leaving, decoding}
+use Rattle.meaning.specs.Answers.{Refusal, first_of, refuses, form_refusals, Reply, leaving, decoding}
 use Rattle.meaning.specs.declared.Answer.TheVariants.{TooMany}
 use Rattle.meaning.proofs.Refusals.{first_refused}
 use Rattle.meaning.proofs.Demands.{decided, by_form, over, under, over_iff}
@@ -25,16 +25,16 @@ module _ (n : ℕ) (s : List ℕ) (r c c' : ℕ) (w out : List ℕ) (up : c ≤ 
   abbrev g : ℕ
   g = unknowns n (rules n s) w
 
-  same_form : formRefusals n s r c w (length out) ≡ formRefusals n s r c' w (length out)
-  unfolding formRefusals
+  same_form : form_refusals n s r c w (length out) ≡ form_refusals n s r c' w (length out)
+  unfolding form_refusals
   same_form = rw (le-ltb largest_ceiling c (omega arith), le-ltb largest_ceiling c' limit)
 
   pub lowered : (decoding n s r c w out ≡ decoding n s r c' w out) ⊎ ((decoding n s r c w out ≡ leaving out (TooMany g)) × (c < g))
-  lowered = go (refuses (formRefusals n s r c w (length out))) refl
+  lowered = go (refuses (form_refusals n s r c w (length out))) refl
     where
-      go : (b : Bool) → refuses (formRefusals n s r c w (length out)) ≡ b → (decoding n s r c w out ≡ decoding n s r c' w out) ⊎ ((decoding n s r c w out ≡ leaving out (TooMany g)) × (c < g))
+      go : (b : Bool) → refuses (form_refusals n s r c w (length out)) ≡ b → (decoding n s r c w out ≡ decoding n s r c' w out) ⊎ ((decoding n s r c w out ≡ leaving out (TooMany g)) × (c < g))
       go true e =
-          inl (by_form n s r c w out ∙ first_refused (leaving out) (formRefusals n s r c w (length out)) (decided n s r c w out) (decided n s r c' w out) e ∙ ap (λ (ts : List Refusal). first_of (leaving out) ts (decided n s r c' w out)) same_form
+          inl (by_form n s r c w out ∙ first_refused (leaving out) (form_refusals n s r c w (length out)) (decided n s r c w out) (decided n s r c' w out) e ∙ ap (λ (ts : List Refusal). first_of (leaving out) ts (decided n s r c' w out)) same_form
           ∙ sym (by_form n s r c' w out))
       go false e =
           ⊎_elim

@@ -19,7 +19,7 @@ use Rattle.meaning.specs.Sheet.{Rule, rules, frees}
 use Rattle.meaning.specs.Codewords.{erased, candidates}
 use Rattle.meaning.specs.Open.{unknowns, equations}
 use Rattle.meaning.specs.Strips.{settled_at, first, last, strips, dimension, log2}
-use Rattle.meaning.specs.Answers.{numbersOf, refuses, sheetRefusals, wordRefusals, formRefusals, Reply, leaving, verdict, decoding}
+use Rattle.meaning.specs.Answers.{numbers_of, refuses, sheet_refusals, word_refusals, form_refusals, Reply, leaving, verdict, decoding}
 use Rattle.meaning.specs.declared.Answer.{Answer}
 use Rattle.meaning.specs.declared.Answer.TheVariants.{TooMany}
 use Rattle.meaning.proofs.Refusals.{refused_is}
@@ -35,7 +35,7 @@ use Rattle.planning.proofs.Halving.{halved_all}
 use Rattle.planning.proofs.Counts.{balance, fewer_unknowns, more_equations, counts-moved, unknowns_each}
 
 abbrev pub numbers : Reply → List ℕ
-numbers t = numbersOf t.answer
+numbers t = numbers_of t.answer
 
 -- ---- no fault of form
 
@@ -52,14 +52,14 @@ module _ (n : ℕ) (s : List ℕ) (r c : ℕ) (w out : List ℕ) where
   abbrev cs : List (List Bool)
   cs = candidates n (rules n s) r w
 
-  refused_form : refuses (formRefusals n s r c w (length out)) ≡ true → not (formed (numbers reply)) ≡ true
-  unfolding formRefusals sheetRefusals wordRefusals
+  refused_form : refuses (form_refusals n s r c w (length out)) ≡ true → not (formed (numbers reply)) ≡ true
+  unfolding form_refusals sheet_refusals word_refusals
   refused_form h =
-      let p : Answer → Bool = λ a. not (formed (numbersOf a)) in
-      ap (λ (t : Reply). p t.answer) (by_form n s r c w out) ∙ refused_is p out (formRefusals n s r c w (length out)) (decided n s r c w out) refl h
+      let p : Answer → Bool = λ a. not (formed (numbers_of a)) in
+      ap (λ (t : Reply). p t.answer) (by_form n s r c w out) ∙ refused_is p out (form_refusals n s r c w (length out)) (decided n s r c w out) refl h
 
   -- and the other way round
-  pub none-formed : refuses (formRefusals n s r c w (length out)) ≡ false → formed (numbers reply) ≡ true
+  pub none-formed : refuses (form_refusals n s r c w (length out)) ≡ false → formed (numbers reply) ≡ true
   none-formed ok =
       ⊎_elim
       (λ (h : g ≤ c). ap (λ (t : Reply). formed (numbers t)) (under n s r c w out ok h) ∙ ap formed (verdict_numbers n g m out cs) ∙ told_formed (length cs))
@@ -72,10 +72,10 @@ module _ (n : ℕ) (s : List ℕ) (r c : ℕ) (w out : List ℕ) where
       told_formed (suc (suc k)) = refl
 
   module _ (ok : formed (numbers reply) ≡ true) where
-    pub formed-none : refuses (formRefusals n s r c w (length out)) ≡ false
-    formed-none = go (refuses (formRefusals n s r c w (length out))) refl
+    pub formed-none : refuses (form_refusals n s r c w (length out)) ≡ false
+    formed-none = go (refuses (form_refusals n s r c w (length out))) refl
       where
-        go : (b : Bool) → refuses (formRefusals n s r c w (length out)) ≡ b → refuses (formRefusals n s r c w (length out)) ≡ false
+        go : (b : Bool) → refuses (form_refusals n s r c w (length out)) ≡ b → refuses (form_refusals n s r c w (length out)) ≡ false
         go true e = absurd (true≢false (sym (refused_form e) ∙ ap not ok))
         go false e = e
 

@@ -9,7 +9,7 @@
 use Rattle.std.specs.Prelude.{◌≡◌, ◌⊎◌, ℕ, ◌+◌, ◌*◌, ◌^◌, ◌≤◌, ◌<◌, Bool, ◌||◌, List, map, take, drop, get_or, eqb, leb}
 use Rattle.bits.specs.Vectors.{Before}
 use Rattle.meaning.specs.Transform.{polar}
-use Rattle.meaning.specs.Answers.{isOne}
+use Rattle.meaning.specs.Answers.{is_one}
 use Rattle.planning.specs.Filled.{fetched}
 
 abbrev pub code_of : List ℕ → ℕ
@@ -33,7 +33,7 @@ abbrev pub strip : ℕ → ℕ → List ℕ → List ℕ
 strip n i b = take (2 ^ n) (drop (i * 2 ^ n) b)
 
 abbrev pub NotLater : ℕ → List ℕ → List ℕ → Type 0
-NotLater n x y = (x ≡ y) ⊎ Before (polar n (map isOne x)) (polar n (map isOne y))
+NotLater n x y = (x ≡ y) ⊎ Before (polar n (map is_one x)) (polar n (map is_one y))
 
 -- place j was erased and not settled, and has been read
 abbrev pub OpenFetched : ℕ → List ℕ → List ℕ → List ℕ → Type 0

@@ -10,14 +10,14 @@ use borrow.Author.Tests.{leb-true, leb-false, lt-ltb, le-ltb, eq-eqb, ne_eqb, no
 use Rattle.bits.specs.Vectors.{tab, first_place}
 use Rattle.meaning.specs.Limits.{largest_n, record_bytes}
 use Rattle.meaning.specs.Sheet.{fine, rule_at, rules, bad_record, frees}
-use Rattle.meaning.specs.Answers.{badShape, badCheck, sheetRefusals, checking}
+use Rattle.meaning.specs.Answers.{bad_shape, bad_check, sheet_refusals, checking}
 use Rattle.sheet.specs.Shapes.{recorded}
 use Rattle.sheet.proofs.Shapes.{recorded-true}
 use Rattle.sheet.proofs.Records.{records_in}
 use Rattle.meaning.specs.declared.Answer.TheVariants.{Done, BadShape, BadRecord, HoldsNothing, BadCheck}
 
-shape_recorded : (n : ℕ) (s : List ℕ) → badShape n s ≡ not (recorded n (length s))
-unfolding badShape recorded
+shape_recorded : (n : ℕ) (s : List ℕ) → bad_shape n s ≡ not (recorded n (length s))
+unfolding bad_shape recorded
 shape_recorded n s = go (leb n largest_n) refl
   where
     go : (t : Bool) → leb n largest_n ≡ t → (ltb largest_n n || not (eqb (length s) (2 ^ n * record_bytes))) ≡ not (t && eqb (length s) (2 ^ n * record_bytes))
@@ -25,9 +25,9 @@ shape_recorded n s = go (leb n largest_n) refl
     go false h = rw (lt-ltb largest_n n (leb-false n largest_n h))
 
 module _ (n : ℕ) (s : List ℕ) (r : ℕ) {t : Bool} (g : t ≡ recorded n (length s)) where
-  pub bad_shape : not t ≡ true → BadShape ≡ checking n s r
-  unfolding checking sheetRefusals
-  bad_shape h = rw (shape_recorded n s, ← g, h)
+  pub bad_shape_lem : not t ≡ true → BadShape ≡ checking n s r
+  unfolding checking sheet_refusals
+  bad_shape_lem h = rw (shape_recorded n s, ← g, h)
 
   abbrev size : ℕ
   size = length s / record_bytes
@@ -42,7 +42,7 @@ module _ (n : ℕ) (s : List ℕ) (r : ℕ) {t : Bool} (g : t ≡ recorded n (le
       first = p ∙ ap (λ (m : ℕ). first_place not (tab m (fine s))) e
 
       pub bad_record_lem : place < size → BadRecord place ≡ checking n s r
-      unfolding checking sheetRefusals
+      unfolding checking sheet_refusals
       bad_record_lem b = rw (shape_recorded n s, ← g, h, ← first, ← e, lt-ltb place size b)
 
       module _ (q : size ≤ place) (k : ℕ) (f : k ≡ frees (tab size (rule_at s))) where
@@ -51,14 +51,14 @@ module _ (n : ℕ) (s : List ℕ) (r : ℕ) {t : Bool} (g : t ≡ recorded n (le
         count = sym (f ∙ ap (λ (m : ℕ). frees (tab m (rule_at s))) e)
 
         pub holds-nothing : k ≡ 0 → HoldsNothing ≡ checking n s r
-        unfolding checking sheetRefusals
+        unfolding checking sheet_refusals
         holds-nothing v = rw (shape_recorded n s, ← g, h, ← first, ← e, le-ltb place size q, count, eq-eqb k 0 v)
 
-        module _ (some : k ≡ 0 → ⊥) (b : Bool) (c : b ≡ badCheck r k) where
-          pub bad_check : b ≡ true → BadCheck ≡ checking n s r
-          unfolding checking sheetRefusals
-          bad_check v = rw (shape_recorded n s, ← g, h, ← first, ← e, le-ltb place size q, count, ne_eqb k 0 some, ← c, v)
+        module _ (some : k ≡ 0 → ⊥) (b : Bool) (c : b ≡ bad_check r k) where
+          pub bad_check_lem : b ≡ true → BadCheck ≡ checking n s r
+          unfolding checking sheet_refusals
+          bad_check_lem v = rw (shape_recorded n s, ← g, h, ← first, ← e, le-ltb place size q, count, ne_eqb k 0 some, ← c, v)
 
           pub done : b ≡ false → Done ≡ checking n s r
-          unfolding checking sheetRefusals
+          unfolding checking sheet_refusals
           done v = rw (shape_recorded n s, ← g, h, ← first, ← e, le-ltb place size q, count, ne_eqb k 0 some, ← c, v)

@@ -12,7 +12,7 @@ use borrow.Author.Tests.{leb-true, eqb-true, le-leb, lt-leb, eq-eqb, not-true, n
 use Rattle.bits.specs.Vectors.{bit, pick}
 use Rattle.bits.proofs.Tests.{and_l, and_r, and_i}
 use Rattle.meaning.specs.Limits.{largest_n, record_bytes, mask_bytes}
-use Rattle.meaning.specs.Answers.{checkLength}
+use Rattle.meaning.specs.Answers.{check_length}
 use Rattle.sheet.specs.Shapes.{positions, recorded, shaped}
 
 -- ---- N
@@ -77,7 +77,7 @@ shaped_when n s d h e k = and_i _ _ (recorded_when n s h e) (eq-eqb d (2 ^ n) k)
 
 -- ---- the check length
 
-pub check-length-most : (r : ℕ) → checkLength r ≡ true → r ≤ 11
+pub check-length-most : (r : ℕ) → check_length r ≡ true → r ≤ 11
 check-length-most r h = go (eqb r 0) (eqb r 6) (eqb r 11) refl refl refl h
   where
     go : (x y z : Bool) → eqb r 0 ≡ x → eqb r 6 ≡ y → eqb r 11 ≡ z → (x || y || z) ≡ true → r ≤ 11

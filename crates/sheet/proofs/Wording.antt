@@ -8,7 +8,7 @@ use lib.Dec.{ltb}
 use borrow.Author.Tests.{lt-ltb, le-ltb, eq-eqb, ne_eqb}
 use Rattle.bits.specs.Vectors.{first_place}
 use Rattle.bits.proofs.Tests.{place_found, place-next, place_end}
-use Rattle.meaning.specs.Answers.{wordRefusals, wording}
+use Rattle.meaning.specs.Answers.{word_refusals, wording}
 use Rattle.meaning.specs.declared.Answer.TheVariants.{Done, BadLength, BadSymbol, ShortOutput}
 
 -- ---- the search
@@ -31,19 +31,19 @@ module _ (w : List ℕ) (top i : ℕ) where
 
 module _ (wanted top needed : ℕ) (w : List ℕ) (room : ℕ) where
   pub not-long : (length w ≡ wanted → ⊥) → BadLength ≡ wording wanted top needed w room
-  unfolding wording wordRefusals
+  unfolding wording word_refusals
   not-long e = rw (ne_eqb (length w) wanted e)
 
   module _ (l : length w ≡ wanted) (place : ℕ) (p : place ≡ first_place (ltb top) w) where
     pub bad_symbol : place < length w → BadSymbol place ≡ wording wanted top needed w room
-    unfolding wording wordRefusals
+    unfolding wording word_refusals
     bad_symbol b = rw (eq-eqb (length w) wanted l, ← p, lt-ltb place (length w) b)
 
     module _ (q : length w ≤ place) where
       pub short : room < needed → ShortOutput ≡ wording wanted top needed w room
-      unfolding wording wordRefusals
+      unfolding wording word_refusals
       short h = rw (eq-eqb (length w) wanted l, ← p, le-ltb place (length w) q, lt-ltb room needed h)
 
       pub done : needed ≤ room → Done ≡ wording wanted top needed w room
-      unfolding wording wordRefusals
+      unfolding wording word_refusals
       done h = rw (eq-eqb (length w) wanted l, ← p, le-ltb place (length w) q, le-ltb room needed h)

@@ -3,7 +3,7 @@ ghost use Rattle.std.specs.Prelude.{◌≡◌, ◌&&◌, not, ◌+◌, ◌*◌, 
 ghost use Rattle.bits.specs.Vectors.{tab, first_place};
 ghost use Rattle.meaning.specs.Limits.{record_bytes, mask_bytes};
 ghost use Rattle.meaning.specs.Sheet.{byte, fine};
-ghost use Rattle.meaning.specs.Answers.{badCheck};
+ghost use Rattle.meaning.specs.Answers.{bad_check};
 ghost use Rattle.sheet.specs.Records.{head_fine, barred, Passed};
 
 use crate::{byte, is_check_length, is_free, mask_word};
@@ -70,7 +70,7 @@ pub fn first_bad(sheet: &[u8]) -> usize
 
 // Whether r is no check length, or leaves no payload.
 pub fn bad_check(r: usize, k: usize) -> bool
-    ensures { result ≡ badCheck r k }
+    ensures { result ≡ bad_check r k }
 {
     if !is_check_length(r) {
         return true;

@@ -4,7 +4,7 @@ ghost use Rattle.std.specs.Prelude.{◌≡◌, ◌/◌, length, eqb};
 ghost use Rattle.bits.specs.Vectors.{tab};
 ghost use Rattle.meaning.specs.Limits.{record_bytes};
 ghost use Rattle.meaning.specs.Sheet.{byte, rule_at, frees};
-ghost use Rattle.meaning.specs.Answers.{checkLength, fault, callRefusals, checking, wording};
+ghost use Rattle.meaning.specs.Answers.{check_length, fault, call_refusals, checking, wording};
 ghost use Rattle.sheet.specs.Masks.{WordOf};
 ghost use Rattle.sheet.specs.Shapes.{positions, recorded, shaped};
 
@@ -97,7 +97,7 @@ pub fn shaped(n: usize, sheet: usize, word: usize) -> bool
 
 // Whether there is a check of length r: r is 0, 6 or 11.
 pub fn is_check_length(r: usize) -> bool
-    ensures { result ≡ checkLength r }
+    ensures { result ≡ check_length r }
 {
     if r == 0 {
         return true;
@@ -164,7 +164,7 @@ pub fn check_call(
     room: usize,
     needed: usize,
 ) -> Answer
-    ensures { result ≡ fault (callRefusals n sheet.now r wanted top needed word.now room) }
+    ensures { result ≡ fault (call_refusals n sheet.now r wanted top needed word.now room) }
 {
     let a = check_sheet(n, sheet, r);
     if !answers::is_done(a) {

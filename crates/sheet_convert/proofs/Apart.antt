@@ -15,7 +15,7 @@ use lib.Dec.{ltb}
 use borrow.Author.Tests.{ne_eqb, lt-ltb}
 use Rattle.bits.proofs.Tests.{le_or_lt, or_true}
 use Rattle.meaning.specs.Limits.{layout, largest_n, mask_bytes, record_bytes, old_mask_bytes, old_record_bytes}
-use Rattle.meaning.specs.Answers.{badShape, sheetRefusals, encodeRefusals, readRefusals, formRefusals, decodeRefusals, leaving, checking, encoding, readingBack, decoding}
+use Rattle.meaning.specs.Answers.{bad_shape, sheet_refusals, encode_refusals, read_refusals, form_refusals, decode_refusals, leaving, checking, encoding, reading_back, decoding}
 use Rattle.meaning.specs.Stream.{refused_record, n_of, records}
 use Rattle.meaning.specs.declared.Answer.TheVariants.{BadShape}
 use Rattle.meaning.proofs.Sizing.{size-right}
@@ -48,26 +48,26 @@ never_both m n l e f = omega (arith, sizes_apart m n old_record_bytes record_byt
 
 module _ (m : ℕ) (old : List ℕ) (long : length old ≡ 2 ^ m * old_record_bytes) where
   module _ (n : ℕ) where
-    bad_shape : badShape n old ≡ true
-    unfolding badShape
-    bad_shape = rw (ne_eqb (length old) (2 ^ n * record_bytes) (never_both m n (length old) long)) (or_true (ltb largest_n n))
+    bad_shape_lem : bad_shape n old ≡ true
+    unfolding bad_shape
+    bad_shape_lem = rw (ne_eqb (length old) (2 ^ n * record_bytes) (never_both m n (length old) long)) (or_true (ltb largest_n n))
 
     pub check-old : (r : ℕ) → checking n old r ≡ BadShape
-    unfolding checking sheetRefusals
-    check-old r = rw bad_shape
+    unfolding checking sheet_refusals
+    check-old r = rw bad_shape_lem
 
     module _ (r : ℕ) (w out : List ℕ) where
       pub encode_old : encoding n old r w out ≡ leaving out BadShape
-      unfolding encoding encodeRefusals sheetRefusals
-      encode_old = rw bad_shape
+      unfolding encoding encode_refusals sheet_refusals
+      encode_old = rw bad_shape_lem
 
-      pub read_old : readingBack n old r w out ≡ leaving out BadShape
-      unfolding readingBack readRefusals sheetRefusals
-      read_old = rw bad_shape
+      pub read_old : reading_back n old r w out ≡ leaving out BadShape
+      unfolding reading_back read_refusals sheet_refusals
+      read_old = rw bad_shape_lem
 
       pub decode-old : (c : ℕ) → decoding n old r c w out ≡ leaving out BadShape
-      unfolding decoding decodeRefusals formRefusals sheetRefusals
-      decode-old c = rw bad_shape
+      unfolding decoding decode_refusals form_refusals sheet_refusals
+      decode-old c = rw bad_shape_lem
 
   -- no n is found from its length
   pub size-old : largest_n < n_of old

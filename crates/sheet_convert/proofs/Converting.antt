@@ -14,7 +14,7 @@ use borrow.Author.Tests.{lt-ltb, le-ltb, eq-eqb, ne_eqb}
 use Rattle.bits.specs.Vectors.{pick}
 use Rattle.meaning.specs.Limits.{layout, old_layout, largest_n, record_bytes, old_largest_n, old_record_bytes}
 use Rattle.meaning.specs.Sheet.{rules, bad_record, frees}
-use Rattle.meaning.specs.Answers.{Reply, numbersOf, badShape, badCheck, sheetRefusals, checking, leaving, writing}
+use Rattle.meaning.specs.Answers.{Reply, numbers_of, bad_shape, bad_check, sheet_refusals, checking, leaving, writing}
 use Rattle.meaning.specs.declared.Answer.{Answer}
 use Rattle.meaning.specs.declared.Answer.TheVariants.{Done, BadShape, BadRecord, BadCheck, HoldsNothing, ShortOutput}
 use Rattle.meaning.proofs.Layouts.{bad_today}
@@ -41,17 +41,17 @@ abbrev hand_left : Bool → Bool → ℕ → List ℕ → List ℕ → Reply
 hand_left b o i sheet out = pick b (leaving out (BadRecord i)) (pick o (leaving out ShortOutput) (writing sheet out Done))
 
 -- 12 is the code of a bad record alone
-told : (b k h : Bool) (i : ℕ) → get_or (numbersOf (check_left b k h i)) 0 0 ≡ 12 → b ≡ true
+told : (b k h : Bool) (i : ℕ) → get_or (numbers_of (check_left b k h i)) 0 0 ≡ 12 → b ≡ true
 told true k h i e = refl
 told false true h i e = absurd (omega arith)
 told false false true i e = absurd (omega arith)
 told false false false i e = absurd (omega arith)
 
-other : (b k h : Bool) (i : ℕ) → (get_or (numbersOf (check_left b k h i)) 0 0 ≡ 12 → ⊥) → b ≡ false
+other : (b k h : Bool) (i : ℕ) → (get_or (numbers_of (check_left b k h i)) 0 0 ≡ 12 → ⊥) → b ≡ false
 other true k h i e = absurd (e refl)
 other false k h i e = refl
 
-module _ (n : ℕ) (sheet out : List ℕ) (shape : badShape n sheet ≡ false) where
+module _ (n : ℕ) (sheet out : List ℕ) (shape : bad_shape n sheet ≡ false) where
   -- the first bad record, and the tests
   abbrev i : ℕ
   i = bad_record n sheet
@@ -63,15 +63,15 @@ module _ (n : ℕ) (sheet out : List ℕ) (shape : badShape n sheet ≡ false) w
   K = eqb (frees (rules n sheet)) 0
 
   abbrev H : Bool
-  H = badCheck 0 (frees (rules n sheet))
+  H = bad_check 0 (frees (rules n sheet))
 
   checked : checking n sheet 0 ≡ check_left B K H i
-  unfolding checking sheetRefusals
+  unfolding checking sheet_refusals
   checked = rw shape
 
-  module _ (a : Answer) (ea : a ≡ checking n sheet 0) (v : List ℕ) (ev : v ≡ numbersOf a) where
-    code : get_or v 0 0 ≡ get_or (numbersOf (check_left B K H i)) 0 0
-    code = ap (λ (l : List ℕ). get_or l 0 0) (ev ∙ ap numbersOf (ea ∙ checked))
+  module _ (a : Answer) (ea : a ≡ checking n sheet 0) (v : List ℕ) (ev : v ≡ numbers_of a) where
+    code : get_or v 0 0 ≡ get_or (numbers_of (check_left B K H i)) 0 0
+    code = ap (λ (l : List ℕ). get_or l 0 0) (ev ∙ ap numbers_of (ea ∙ checked))
 
     pub bad : get_or v 0 0 ≡ 12 → leaving out a ≡ handing n sheet out
     unfolding handing
@@ -95,8 +95,8 @@ module _ (n : ℕ) (sheet out : List ℕ) (shape : badShape n sheet ≡ false) w
 -- ---- a converted sheet
 
 module _ (n : ℕ) (old : List ℕ) (o : Old n old) where
-  pub new_shape : badShape n (widened old_layout layout n old) ≡ false
-  unfolding badShape
+  pub new_shape : bad_shape n (widened old_layout layout n old) ≡ false
+  unfolding bad_shape
   new_shape =
       let h = o.small in
       rw (le-ltb largest_n n (omega (arith, wider.high)), eq-eqb (length (widened old_layout layout n old)) (2 ^ n * record_bytes) (new-long wider n old))

@@ -19,7 +19,7 @@ use Rattle.meaning.specs.Limits.{layout, old_layout, record_bytes, old_largest_n
 use Rattle.meaning.specs.Sheet.{Rule, rules, rules_in, bad_in, frees}
 use Rattle.meaning.specs.Codewords.{codewords, candidates, payload_of}
 use Rattle.meaning.specs.Open.{unknowns, equations}
-use Rattle.meaning.specs.Answers.{Reply, isDone, refuses, badShapeIn, checking, checkingIn, reply, leaving}
+use Rattle.meaning.specs.Answers.{Reply, is_done, refuses, bad_shape_in, checking, checking_in, reply, leaving}
 use Rattle.meaning.specs.declared.Answer.{Answer}
 use Rattle.meaning.specs.declared.Answer.TheVariants.{Done}
 use Rattle.meaning.proofs.Layouts.{rules_today, checking_today}
@@ -42,7 +42,7 @@ pub record Converted (n : ℕ) (old sheet : List ℕ) : Type 0 where
   pub g : (w : List ℕ) → unknowns n (rules n sheet) w ≡ unknowns n (rules_in old_layout n old) w
   pub m : (w : List ℕ) (r : ℕ) → equations n (rules n sheet) r w ≡ equations n (rules_in old_layout n old) r w
   -- the check says of it, with any r, what the old check says of the old sheet
-  pub check : (r : ℕ) → checking n sheet r ≡ checkingIn old_layout n old r
+  pub check : (r : ℕ) → checking n sheet r ≡ checking_in old_layout n old r
 
 pub same : (n : ℕ) (old : List ℕ) → Old n old → Converted n old (widened old_layout layout n old)
 same n old o =
@@ -70,16 +70,16 @@ module _ (n : ℕ) (old out x : List ℕ) (a : Answer) (p : reply x a ≡ conver
   convert_done h = ap (λ (t : Reply). t.answer) (p ∙ first-none (leaving out) (convert_refusals n old (length out)) _ h)
 
   -- where it answers 0
-  module _ (d : isDone a ≡ true) where
+  module _ (d : is_done a ≡ true) where
     none : refuses (convert_refusals n old (length out)) ≡ false
     unfolding converting convert_refusals
-    none = done_none out (convert_refusals n old (length out)) _ refl (ap (λ (t : Reply). isDone t.answer) (sym p) ∙ d)
+    none = done_none out (convert_refusals n old (length out)) _ refl (ap (λ (t : Reply). is_done t.answer) (sym p) ∙ d)
 
     -- an old sheet of N records was given
     pub given : Old n old
     unfolding convert_refusals
     given =
-        let shape = or_false_l (badShapeIn old_layout n old) _ none in
+        let shape = or_false_l (bad_shape_in old_layout n old) _ none in
         record {
           small = ltb-false old_largest_n n (or_false_l (ltb old_largest_n n) _ shape);
           long = eqb-true (length old) (2 ^ n * old_record_bytes) (not-false _ (or_false_r (ltb old_largest_n n) _ shape));
@@ -89,7 +89,7 @@ module _ (n : ℕ) (old out x : List ℕ) (a : Answer) (p : reply x a ≡ conver
     pub roomy : 2 ^ n * record_bytes ≤ length out
     unfolding convert_refusals
     roomy =
-        let rest = or_false_r (badShapeIn old_layout n old) _ none in
+        let rest = or_false_r (bad_shape_in old_layout n old) _ none in
         ltb-false (length out) (2 ^ n * record_bytes) (or_false_l (ltb (length out) (2 ^ n * record_bytes)) _ (or_false_r (ltb (bad_in old_layout n old) (2 ^ n)) _ rest))
 
     -- for as many records of today's size as were given

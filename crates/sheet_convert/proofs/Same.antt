@@ -18,7 +18,7 @@ use Rattle.meaning.specs.Sheet.{Rule, free, frozen, rule_in, rules_in, frees}
 use Rattle.meaning.specs.Check.{keeps_rules, free_bits, divides, keeps}
 use Rattle.meaning.specs.Codewords.{codewords, agrees, candidates, payload_of}
 use Rattle.meaning.specs.Open.{open_free, closed_frozen, open_all, unknowns, equations}
-use Rattle.meaning.specs.Answers.{checkingIn}
+use Rattle.meaning.specs.Answers.{checking_in}
 use Rattle.sheet_convert.specs.Conversion.{widened}
 use Rattle.sheet_convert.proofs.Widening.{Wider, grown, grown_rule, more, new-long, new-rules, new_bad}
 
@@ -116,8 +116,8 @@ module _ {L M : Layout} (W : Wider L M) (n : ℕ) (s : List ℕ) where
     few : n ≤ M.largest
     few = omega arith
 
-    pub same_check : (r : ℕ) → checkingIn M n (widened L M n s) r ≡ checkingIn L n s r
-    unfolding checkingIn
+    pub same_check : (r : ℕ) → checking_in M n (widened L M n s) r ≡ checking_in L n s r
+    unfolding checking_in
     same_check r =
         rw (
           le-ltb M.largest n few,

@@ -8,7 +8,7 @@ use Rattle.std.specs.Prelude.{◌≡◌, ℕ, ◌*◌, ◌/◌, ◌%◌, ◌^◌
 use Rattle.bits.specs.Vectors.{pick, tab}
 use Rattle.meaning.specs.Limits.{Layout, layout, old_layout, record_bytes, old_largest_n, old_record_bytes}
 use Rattle.meaning.specs.Sheet.{bad_record, byte_in, bad_in}
-use Rattle.meaning.specs.Answers.{Refusal, Reply, ◌⇒◌, first_of, badShapeIn, leaving, writing}
+use Rattle.meaning.specs.Answers.{Refusal, Reply, ◌⇒◌, first_of, bad_shape_in, leaving, writing}
 use Rattle.meaning.specs.declared.Answer.TheVariants.{Done, BadShape, BadRecord, ShortOutput}
 
 -- ---- the new sheet
@@ -25,7 +25,7 @@ widened L M n s = tab (2 ^ n * M.bytes) (wide_at L M s)
 -- the old 11 and 12, then 16: an output shorter than the new sheet
 unfoldable pub convert_refusals : ℕ → List ℕ → ℕ → List Refusal
 convert_refusals n s room =
-    (badShapeIn old_layout n s ⇒ BadShape)
+    (bad_shape_in old_layout n s ⇒ BadShape)
     ∷ (ltb (bad_in old_layout n s) (2 ^ n) ⇒ BadRecord (bad_in old_layout n s))
     ∷ (ltb room (2 ^ n * record_bytes) ⇒ ShortOutput)
     ∷ []

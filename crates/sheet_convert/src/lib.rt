@@ -3,7 +3,7 @@
 ghost use Rattle.std.specs.Prelude.{◌≡◌, false, ◌*◌, ◌/◌, ◌^◌, ◌≤◌, ◌<◌, length};
 ghost use Rattle.bits.specs.Vectors.{tab};
 ghost use Rattle.meaning.specs.Limits.{layout, old_layout, record_bytes, old_record_bytes};
-ghost use Rattle.meaning.specs.Answers.{badShape, reply};
+ghost use Rattle.meaning.specs.Answers.{bad_shape, reply};
 ghost use Rattle.meaning.specs.Stream.{n_in};
 ghost use Rattle.sheet_convert.specs.Conversion.{wide_at, converting, Old, handing};
 
@@ -52,7 +52,7 @@ fn widen(old: &[u8], sheet: &mut [u8])
 
 // Hands out a sheet of today: answers for a bad record, for too little room, or copies it.
 fn hand_out(n: usize, sheet: &[u8], out: &mut [u8]) -> Answer
-    requires { badShape n sheet.now ≡ false }
+    requires { bad_shape n sheet.now ≡ false }
     ensures { reply out.new result ≡ handing n sheet.now out.old }
 {
     let a = sheet::check_sheet(n, sheet, 0);

@@ -18,7 +18,7 @@ use Rattle.meaning.specs.Sheet.{Rule, free, frozen, rules, bad_record}
 use Rattle.meaning.specs.Codewords.{candidates}
 use Rattle.meaning.specs.Open.{open_free, closed_frozen, open_all, unknowns, equations}
 use Rattle.meaning.specs.Strips.{dimension}
-use Rattle.meaning.specs.Answers.{Refusal, first_of, refuses, Reply, leaving, sheetRefusals, wordRefusals, formRefusals, decodeRefusals, verdict, decoding}
+use Rattle.meaning.specs.Answers.{Refusal, first_of, refuses, Reply, leaving, sheet_refusals, word_refusals, form_refusals, decode_refusals, verdict, decoding}
 use Rattle.meaning.proofs.Sound.{length-rules}
 use Rattle.meaning.proofs.Strips.{candidate_long, strips-long}
 use Rattle.meaning.proofs.Dimension.{dimension-is}
@@ -51,17 +51,17 @@ verdict-long n g m (x ∷ []) out f h = let l = strips-long n (x ∷ []) (omega 
 verdict-long n g m (x ∷ y ∷ cs) out f h = let l = strips-long n (x ∷ y ∷ cs) (omega arith) f in simp (length-append, length-drop) (omega (arith, l))
 
 pub keeps-length : (n : ℕ) (s : List ℕ) (r c : ℕ) (w out : List ℕ) → length (decoding n s r c w out).bytes ≡ length out
-unfolding decoding decodeRefusals
-keeps-length n s r c w out = go (refuses (decodeRefusals n s r c w (length out))) refl
+unfolding decoding decode_refusals
+keeps-length n s r c w out = go (refuses (decode_refusals n s r c w (length out))) refl
   where
     cs : List (List Bool)
     cs = candidates n (rules n s) r w
 
-    go : (b : Bool) → refuses (decodeRefusals n s r c w (length out)) ≡ b → length (decoding n s r c w out).bytes ≡ length out
-    go true e = ap length (refused_untouched out (decodeRefusals n s r c w (length out)) _ e)
+    go : (b : Bool) → refuses (decode_refusals n s r c w (length out)) ≡ b → length (decoding n s r c w out).bytes ≡ length out
+    go true e = ap length (refused_untouched out (decode_refusals n s r c w (length out)) _ e)
     go false e =
-        let form = form_parts n s r c w (length out) (none_append (formRefusals n s r c w (length out)) _ e).0 in
-        ap (λ (a : Reply). length a.bytes) (first-none (leaving out) (decodeRefusals n s r c w (length out)) _ e)
+        let form = form_parts n s r c w (length out) (none_append (form_refusals n s r c w (length out)) _ e).0 in
+        ap (λ (a : Reply). length a.bytes) (first-none (leaving out) (decode_refusals n s r c w (length out)) _ e)
         ∙ verdict-long n _ _ cs out (candidate_long n (rules n s) r w) form.1.roomy
 
 -- ---- the numbers
@@ -113,9 +113,9 @@ module _ (n : ℕ) (h : n ≤ largest_n) where
       rw (lt-ltb _ 65536 (unknowns_few s w), lt-ltb _ 65536 (equations_few s w r ok.check), lt-ltb (dimension (x ∷ y ∷ cs)) 65536 (omega (arith, d, unknowns_few s w)))
 
   pub fits-two-bytes : (s : List ℕ) (r c : ℕ) (w out : List ℕ) → Small (decoding n s r c w out).answer
-  unfolding decoding decodeRefusals formRefusals sheetRefusals wordRefusals small
+  unfolding decoding decode_refusals form_refusals sheet_refusals word_refusals small
   fits-two-bytes s r c w out =
-      by_rows (λ (t : Reply). Small t.answer) out (verdict n (unknowns n (rules n s) w) (equations n (rules n s) r w) (candidates n (rules n s) r w) out) (decodeRefusals n s r c w (length out)) (
+      by_rows (λ (t : Reply). Small t.answer) out (verdict n (unknowns n (rules n s) w) (equations n (rules n s) r w) (candidates n (rules n s) r w) out) (decode_refusals n s r c w (length out)) (
         λ _. refl,
         λ a. (
           λ e. rw (lt-ltb (bad_record n s) 65536 (omega (arith, ltb-true (bad_record n s) (2 ^ n) e, size_low))),

@@ -32,7 +32,7 @@ use Rattle.bits.proofs.Records.{flatten_append, record_of_lem}
 use Rattle.meaning.specs.Limits.{largest_n, largest_ceiling}
 use Rattle.meaning.specs.Sheet.{rules}
 use Rattle.meaning.specs.Open.{unknowns}
-use Rattle.meaning.specs.Answers.{numbersOf, Reply, isDone, reply, leaving, writing, decoding}
+use Rattle.meaning.specs.Answers.{numbers_of, Reply, is_done, reply, leaving, writing, decoding}
 use Rattle.meaning.specs.Stream.{header, answer_bytes, padded, answer_record, refused_record, n_of, rounded_up, word_at, records, streaming}
 use Rattle.meaning.specs.declared.Answer.{Answer}
 use Rattle.meaning.specs.declared.Answer.TheVariants.{Done, ShortOutput, TooMany}
@@ -83,7 +83,7 @@ module _ (s ch : List ℕ) (h : n_of s ≤ largest_n) (two : length ch ≡ 2) wh
   written input out x p = go (ltb (length out) (length (records s ch input) * answer_bytes)) p
     where
       go : (b : Bool) → reply x Done ≡ pick b (leaving out ShortOutput) (writing (flatten (records s ch input)) out Done) → x ≡ flatten (records s ch input) ++ drop (length (flatten (records s ch input))) out
-      go true q = absurd (true≢false (ap (λ (t : Reply). isDone t.answer) q))
+      go true q = absurd (true≢false (ap (λ (t : Reply). is_done t.answer) q))
       go false q = ap (λ (t : Reply). t.bytes) q
 
   pub record_at_lem : (input out x : List ℕ) → reply x Done ≡ streaming s ch input out → (k : ℕ) → k < rounded_up (length input) (2 ^ n) → row answer_bytes x k ≡ answer_to (word_at n input k)
@@ -104,7 +104,7 @@ module _ (s ch : List ℕ) (h : n_of s ≤ largest_n) (two : length ch ≡ 2) wh
   decoded_to w = decoding n s (get_or ch 0 0) (get_or ch 1 0) w (replicate (3 * 2 ^ n) 255)
 
   pub record_read : (input out x : List ℕ) → reply x Done ≡ streaming s ch input out → (k : ℕ) → k < rounded_up (length input) (2 ^ n)
-      → (numbers_in (row answer_bytes x k) ≡ numbersOf (decoded_to (word_at n input k)).answer) × (strips_in n (row answer_bytes x k) ≡ (decoded_to (word_at n input k)).bytes)
+      → (numbers_in (row answer_bytes x k) ≡ numbers_of (decoded_to (word_at n input k)).answer) × (strips_in n (row answer_bytes x k) ≡ (decoded_to (word_at n input k)).bytes)
   record_read input out x p k l =
       let e = record_at_lem input out x p k l in
       let w : List ℕ = word_at n input k in

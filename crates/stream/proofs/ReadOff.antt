@@ -13,7 +13,7 @@ use borrow.Author.Tests.{ltb-true}
 use Rattle.bits.specs.Vectors.{all}
 use Rattle.bits.proofs.Tests.{all-at}
 use Rattle.meaning.specs.Limits.{largest_n, head_bytes, strip_width}
-use Rattle.meaning.specs.Answers.{numbersOf, Reply, decoding}
+use Rattle.meaning.specs.Answers.{numbers_of, Reply, decoding}
 use Rattle.meaning.specs.Stream.{two_bytes, header, padded, answer_record}
 use Rattle.meaning.specs.declared.Answer.{Answer}
 use Rattle.meaning.proofs.Heading.{numbers_five, two_bytes_lem, header-long}
@@ -38,8 +38,8 @@ five_read (a ∷ b ∷ c ∷ d ∷ e ∷ []) z l h =
 five_read (a ∷ b ∷ c ∷ d ∷ e ∷ f ∷ v) z l h = absurd (omega arith)
 
 -- whatever stands behind them
-numbers_read : (a : Answer) (z : List ℕ) → all (λ (x : ℕ). ltb x 65536) (numbersOf a) ≡ true → numbers_in (header a ++ z) ≡ numbersOf a
-numbers_read a z h = ap numbers_in (append_assoc (flatten (map two_bytes (numbersOf a))) (replicate (head_bytes - 10) 0) z) ∙ five_read (numbersOf a) _ (numbers_five a) h
+numbers_read : (a : Answer) (z : List ℕ) → all (λ (x : ℕ). ltb x 65536) (numbers_of a) ≡ true → numbers_in (header a ++ z) ≡ numbers_of a
+numbers_read a z h = ap numbers_in (append_assoc (flatten (map two_bytes (numbers_of a))) (replicate (head_bytes - 10) 0) z) ∙ five_read (numbers_of a) _ (numbers_five a) h
 
 -- ---- the strips
 
@@ -88,7 +88,7 @@ module _ (n : ℕ) (s : List ℕ) (r c : ℕ) (w : List ℕ) (h : n ≤ largest_
   abbrev reply : Reply
   reply = decoding n s r c w found
 
-  pub numbers_off : numbers_in (answer_record n s r c w) ≡ numbersOf reply.answer
+  pub numbers_off : numbers_in (answer_record n s r c w) ≡ numbers_of reply.answer
   unfolding answer_record small
   numbers_off =
       let b : List ℕ = reply.bytes in

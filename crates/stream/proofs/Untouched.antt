@@ -10,7 +10,7 @@ use lib.ListN.{take, drop, replicate, length-replicate}
 use lib.Dec.{ltb}
 use Rattle.meaning.specs.Limits.{largest_n, strip_width}
 use Rattle.meaning.specs.Sheet.{rules, bad_record, frees}
-use Rattle.meaning.specs.Answers.{Reply, badShape, leaving, decoding}
+use Rattle.meaning.specs.Answers.{Reply, bad_shape, leaving, decoding}
 use Rattle.meaning.specs.Stream.{header, padded, answer_record, refused_record}
 use Rattle.meaning.specs.declared.Answer.{Answer}
 use Rattle.meaning.specs.declared.Answer.TheVariants.{HoldsNothing}
@@ -53,5 +53,5 @@ untouched_record n s r c w a h p =
     ∙ behind (header a)
 
 pub nothing-recorded : (n : ℕ) (s : List ℕ) (r c : ℕ) (w : List ℕ) → n ≤ largest_n
-    → badShape n s ≡ false → ltb (bad_record n s) (2 ^ n) ≡ false → frees (rules n s) ≡ 0 → answer_record n s r c w ≡ refused_record HoldsNothing
+    → bad_shape n s ≡ false → ltb (bad_record n s) (2 ^ n) ≡ false → frees (rules n s) ≡ 0 → answer_record n s r c w ≡ refused_record HoldsNothing
 nothing-recorded n s r c w h shape sound none = untouched_record n s r c w HoldsNothing h (nothing-decoded n s r shape sound none c w _)

@@ -1,7 +1,7 @@
 -- The records and parts of an input, by the lengths of the sheet and the choice.
 --     Alone, alone_shape, alone_choice     one record alone, and no part
 --     Right, right                         a record and a part for each strip
---     reply_long, headers-wide, parts-wide, headers-many, parts-many     how long each is, and how many there are
+--     reply-long, headers-wide, parts-wide, headers-many, parts-many     how long each is, and how many there are
 use mathlib.Core.Path.{◌≡◌, refl, sym, ap, ◌∙◌}
 use Prim.Native.Nat.{ℕ, ◌≤◌, ◌<◌}
 use native.Mathlib.Omega.{arith}
@@ -101,9 +101,9 @@ pub part-pos : (n : ℕ) → 0 < part_bytes n
 unfolding part_bytes
 part-pos n = omega (arith, pow_pos n)
 
-pub reply_long : (n : ℕ) (s : List ℕ) (r c : ℕ) (lost strip : List ℕ) → length (strip_reply n s r c lost strip).bytes ≡ part_bytes n
+pub reply-long : (n : ℕ) (s : List ℕ) (r c : ℕ) (lost strip : List ℕ) → length (strip_reply n s r c lost strip).bytes ≡ part_bytes n
 unfolding strip_reply
-reply_long n s r c lost strip = repair_kept n s r c strip lost (replicate (part_bytes n) 255) ∙ length-replicate (part_bytes n) 255
+reply-long n s r c lost strip = repair_kept n s r c strip lost (replicate (part_bytes n) 255) ∙ length-replicate (part_bytes n) 255
 
 module _ (s ch lost input : List ℕ) where
   pub headers-wide : Wide head_bytes (headers s ch lost input)
@@ -116,7 +116,7 @@ module _ (s ch lost input : List ℕ) where
   unfolding parts
   parts-wide =
       case_all s ch _ _ _ (Wide (part_bytes (n_of s))) tt tt
-      (wide-tab (part_bytes (n_of s)) (strip_count s input) (λ (k : ℕ). (reply_at s ch lost input k).bytes) (λ k. reply_long (n_of s) s _ _ lost _))
+      (wide-tab (part_bytes (n_of s)) (strip_count s input) (λ (k : ℕ). (reply_at s ch lost input k).bytes) (λ k. reply-long (n_of s) s _ _ lost _))
 
   pub headers-many : length (headers s ch lost input) ≡ record_count s ch input
   unfolding headers record_count

@@ -22,7 +22,7 @@ use Rattle.meaning.specs.Limits.{largest_n, mask_bytes, record_bytes, largest_ce
 use Rattle.meaning.specs.Sheet.{Rule, rules}
 use Rattle.meaning.specs.Codewords.{erased, candidates}
 use Rattle.meaning.specs.Open.{is_open, open_all, open_free, closed_frozen, unknowns, equations}
-use Rattle.meaning.specs.Answers.{Refusal, ◌⇒◌, first_of, fault, isDone, checking, wording, refuses, sheetRefusals, wordRefusals, formRefusals, Reply, leaving, verdict, decoding}
+use Rattle.meaning.specs.Answers.{Refusal, ◌⇒◌, first_of, fault, is_done, checking, wording, refuses, sheet_refusals, word_refusals, form_refusals, Reply, leaving, verdict, decoding}
 use Rattle.meaning.specs.declared.Answer.{Answer}
 use Rattle.meaning.specs.declared.Answer.TheVariants.{Done, BadLength, BadCeiling, TooMany}
 use Rattle.meaning.proofs.Refusals.{tried_done, tried_refused, past_none, none_append}
@@ -39,10 +39,10 @@ use Rattle.strips.specs.Deciding.{lane_in, lane_verdict, repair_deciding, Formed
 
 module _ (n : ℕ) (s : List ℕ) (r c strip : ℕ) (w : List ℕ) (room : ℕ) where
   abbrev S : List Refusal
-  S = sheetRefusals n s r
+  S = sheet_refusals n s r
 
   abbrev W : List Refusal
-  W = wordRefusals (2 ^ n) 1 (65 * 2 ^ n) w room
+  W = word_refusals (2 ^ n) 1 (65 * 2 ^ n) w room
 
   abbrev L : List Refusal
   L = (not (eqb strip (2 ^ n * 64)) ⇒ BadLength) ∷ W
@@ -54,14 +54,14 @@ module _ (n : ℕ) (s : List ℕ) (r c strip : ℕ) (w : List ℕ) (room : ℕ) 
   unfolding repair_form
   table = ap (λ (t : List Refusal). first_of (λ (x : Answer). x) t Done) (append_assoc S L C)
 
-  module _ (a : Answer) (ea : a ≡ checking n s r) (b : Bool) (eb : b ≡ isDone a) where
+  module _ (a : Answer) (ea : a ≡ checking n s r) (b : Bool) (eb : b ≡ is_done a) where
     pub fault_sheet : b ≡ false → a ≡ fault (repair_form n s r c strip w room)
     unfolding checking
-    fault_sheet t = ea ∙ sym (tried_refused (λ (x : Answer). x) S (L ++ C) Done (ap isDone (sym ea) ∙ sym eb ∙ t)) ∙ sym table
+    fault_sheet t = ea ∙ sym (tried_refused (λ (x : Answer). x) S (L ++ C) Done (ap is_done (sym ea) ∙ sym eb ∙ t)) ∙ sym table
 
     module _ (t : b ≡ true) where
       sheet_none : refuses S ≡ false
-      sheet_none = checked-none n s r (ap isDone (sym ea) ∙ sym eb ∙ t)
+      sheet_none = checked-none n s r (ap is_done (sym ea) ∙ sym eb ∙ t)
 
       size_is : length s / record_bytes ≡ 2 ^ n
       size_is = records_in (length s) (2 ^ n) (good n s r sheet_none).long
@@ -69,10 +69,10 @@ module _ (n : ℕ) (s : List ℕ) (r c strip : ℕ) (w : List ℕ) (room : ℕ) 
       past_sheet : fault (repair_form n s r c strip w room) ≡ pick (not (eqb strip (2 ^ n * 64))) BadLength (first_of (λ (x : Answer). x) (W ++ C) Done)
       past_sheet = table ∙ past_none (λ (x : Answer). x) S (L ++ C) Done sheet_none
 
-      pub fault_strip : (strip ≡ length s / record_bytes * 64 → ⊥) → BadLength ≡ fault (repair_form n s r c strip w room)
-      fault_strip h = sym (past_sheet ∙ rw (ne_eqb strip (2 ^ n * 64) (λ z. h (z ∙ ap (λ (k : ℕ). k * 64) (sym size_is)))) refl)
+      pub fault-strip : (strip ≡ length s / record_bytes * 64 → ⊥) → BadLength ≡ fault (repair_form n s r c strip w room)
+      fault-strip h = sym (past_sheet ∙ rw (ne_eqb strip (2 ^ n * 64) (λ z. h (z ∙ ap (λ (k : ℕ). k * 64) (sym size_is)))) refl)
 
-      module _ (l : strip ≡ length s / record_bytes * 64) (v : Answer) (ev : v ≡ wording (length s / record_bytes) 1 (65 * (length s / record_bytes)) w room) (d : Bool) (ed : d ≡ isDone v) where
+      module _ (l : strip ≡ length s / record_bytes * 64) (v : Answer) (ev : v ≡ wording (length s / record_bytes) 1 (65 * (length s / record_bytes)) w room) (d : Bool) (ed : d ≡ is_done v) where
         -- N, in the value that the code has
         meant : v ≡ wording (2 ^ n) 1 (65 * 2 ^ n) w room
         meant = ev ∙ ap (λ (k : ℕ). wording k 1 (65 * k) w room) size_is
@@ -82,16 +82,16 @@ module _ (n : ℕ) (s : List ℕ) (r c strip : ℕ) (w : List ℕ) (room : ℕ) 
 
         pub fault_word : d ≡ false → v ≡ fault (repair_form n s r c strip w room)
         unfolding wording
-        fault_word q = meant ∙ sym (tried_refused (λ (x : Answer). x) W C Done (ap isDone (sym meant) ∙ sym ed ∙ q)) ∙ sym past_strip
+        fault_word q = meant ∙ sym (tried_refused (λ (x : Answer). x) W C Done (ap is_done (sym meant) ∙ sym ed ∙ q)) ∙ sym past_strip
 
         past_word : d ≡ true → fault (repair_form n s r c strip w room) ≡ pick (ltb largest_ceiling c) BadCeiling Done
-        past_word q = past_strip ∙ past_none (λ (x : Answer). x) W C Done (worded_none (2 ^ n) 1 (65 * 2 ^ n) w room (ap isDone (sym meant) ∙ sym ed ∙ q))
+        past_word q = past_strip ∙ past_none (λ (x : Answer). x) W C Done (worded_none (2 ^ n) 1 (65 * 2 ^ n) w room (ap is_done (sym meant) ∙ sym ed ∙ q))
 
         pub fault_ceiling : d ≡ true → largest_ceiling < c → BadCeiling ≡ fault (repair_form n s r c strip w room)
         fault_ceiling q h = sym (past_word q ∙ rw (lt-ltb largest_ceiling c h) refl)
 
-        pub fault_none : d ≡ true → c ≤ largest_ceiling → Done ≡ fault (repair_form n s r c strip w room)
-        fault_none q h = sym (past_word q ∙ rw (le-ltb largest_ceiling c h) refl)
+        pub fault-none : d ≡ true → c ≤ largest_ceiling → Done ≡ fault (repair_form n s r c strip w room)
+        fault-none q h = sym (past_word q ∙ rw (le-ltb largest_ceiling c h) refl)
 
 -- ---- what is lost, as a word
 
@@ -133,8 +133,8 @@ lanes-erased strip lost t t' = by t ∙ sym (by t')
     by t = ap (map erased) (lane-same strip lost t) ∙ in_erased (lost_word lost) (λ (j : ℕ). lane_bit strip j t) (λ j. omega arith)
 
 -- a lane is a word of N symbols up to 2
-lane_worded : (strip lost : List ℕ) (t N room : ℕ) → length lost ≡ N → 3 * N ≤ room → refuses (wordRefusals N 2 (3 * N) (lane_of strip lost t) room) ≡ false
-unfolding wordRefusals
+lane_worded : (strip lost : List ℕ) (t N room : ℕ) → length lost ≡ N → 3 * N ≤ room → refuses (word_refusals N 2 (3 * N) (lane_of strip lost t) room) ≡ false
+unfolding word_refusals
 lane_worded strip lost t N room e k =
     let w : List ℕ = lane_of strip lost t in
     let l : length w ≡ length lost = length-tab (length lost) _ in
@@ -170,8 +170,8 @@ module _ (n : ℕ) (s : List ℕ) (r c : ℕ) (strip lost out : List ℕ) where
   m_same t = ap (λ (o : List Bool). ones (closed_frozen (rules n s) o) + r) (ap (open_all n) (lane-same strip lost t) ∙ open_same strip (lost_word lost) t n)
 
   -- no fault of form in a strip, none in its lanes
-  pub lane-formed : refuses F ≡ false → (t : ℕ) (o : List ℕ) → 3 * 2 ^ n ≤ length o → refuses (formRefusals n s r c (lane_of strip lost t) (length o)) ≡ false
-  unfolding repair_form wordRefusals
+  pub lane-formed : refuses F ≡ false → (t : ℕ) (o : List ℕ) → 3 * 2 ^ n ≤ length o → refuses (form_refusals n s r c (lane_of strip lost t) (length o)) ≡ false
+  unfolding repair_form word_refusals
   lane-formed h t o k =
       let (p, u) = none_append (S n s r c (length strip) lost (length out) ++ L n s r c (length strip) lost (length out)) _ h in
       let (q, v) = none_append (S n s r c (length strip) lost (length out)) _ p in
@@ -223,14 +223,14 @@ module _ (n : ℕ) (s : List ℕ) (r c : ℕ) (strip lost out : List ℕ) where
   pub form_room : refuses F ≡ false → 65 * 2 ^ n ≤ length out
   form_room h = (formed h).room
 
-  module _ (a : Answer) (ea : a ≡ fault (repair_form n s r c (length strip) lost (length out))) (b : Bool) (eb : b ≡ isDone a) where
+  module _ (a : Answer) (ea : a ≡ fault (repair_form n s r c (length strip) lost (length out))) (b : Bool) (eb : b ≡ is_done a) where
     pub repair_refused : b ≡ false → leaving out a ≡ repairing n s r c strip lost out
     unfolding repairing repair_refusals
-    repair_refused t = ap (leaving out) ea ∙ sym (tried_refused (leaving out) F ((ltb c G ⇒ TooMany G) ∷ []) last (ap isDone (sym ea) ∙ sym eb ∙ t))
+    repair_refused t = ap (leaving out) ea ∙ sym (tried_refused (leaving out) F ((ltb c G ⇒ TooMany G) ∷ []) last (ap is_done (sym ea) ∙ sym eb ∙ t))
 
     none : b ≡ true → refuses F ≡ false
-    unfolding repair_form sheetRefusals wordRefusals
-    none t = tried_done F refl (ap isDone (sym ea) ∙ sym eb ∙ t)
+    unfolding repair_form sheet_refusals word_refusals
+    none t = tried_done F refl (ap is_done (sym ea) ∙ sym eb ∙ t)
 
     pub repair_passed : b ≡ true → Formed n s r c (length strip) (length (lost_word lost)) (length out)
     repair_passed t = formed (none t)

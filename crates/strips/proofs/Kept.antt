@@ -40,9 +40,9 @@ module _ (n : ℕ) (lane : ℕ → Reply) where
       length-flatten 64 (tab (2 ^ n) (record_at n lane)) (wide-tab 64 (2 ^ n) (record_at n lane) record_long) ∙ ap (λ (k : ℕ). k * 64) (length-tab (2 ^ n) (record_at n lane)) in
       length-append (flatten (tab (2 ^ n) (record_at n lane))) _ ∙ omega (arith, l, length-tab (2 ^ n) (λ (j : ℕ). bit (open_at n lane j)))
 
-  reply_long : (out : List ℕ) → 65 * 2 ^ n ≤ length out → length (strip_reply n lane out).bytes ≡ length out
+  reply-long : (out : List ℕ) → 65 * 2 ^ n ≤ length out → length (strip_reply n lane out).bytes ≡ length out
   unfolding strip_reply
-  reply_long out h = go (ltb (first_bad n lane) 512)
+  reply-long out h = go (ltb (first_bad n lane) 512)
     where
       go : (b : Bool) → length (pick b (leaving out (at_lane (first_bad n lane) (lane (first_bad n lane)).answer)) (writing (repaired n lane) out (lane 0).answer)).bytes ≡ length out
       go true = refl
@@ -56,7 +56,7 @@ repair_kept n s r c strip lost out = go (refuses (repair_refusals n s r c strip 
     go true e = ap length (refused_untouched out (repair_refusals n s r c strip lost out) _ e)
     go false e =
         ap (λ (a : Reply). length a.bytes) (first-none (leaving out) (repair_refusals n s r c strip lost out) _ e)
-        ∙ reply_long n (lane_reply n s r c strip lost) out (form_room n s r c strip lost out (none_append (repair_form n s r c (length strip) lost (length out)) _ e).0)
+        ∙ reply-long n (lane_reply n s r c strip lost) out (form_room n s r c strip lost out (none_append (repair_form n s r c (length strip) lost (length out)) _ e).0)
 
 -- ---- the lanes alone
 

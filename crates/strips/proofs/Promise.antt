@@ -29,7 +29,7 @@ use Rattle.meaning.specs.Sheet.{Rule, rules}
 use Rattle.meaning.specs.Codewords.{fits, agrees, candidates}
 use Rattle.meaning.specs.Open.{unknowns, equations}
 use Rattle.meaning.specs.Strips.{settled_at}
-use Rattle.meaning.specs.Answers.{Reply, numbersOf, first_of, refuses, formRefusals, reply, leaving, writing, verdict, decoding}
+use Rattle.meaning.specs.Answers.{Reply, numbers_of, first_of, refuses, form_refusals, reply, leaving, writing, verdict, decoding}
 use Rattle.meaning.specs.declared.Answer.{Answer}
 use Rattle.meaning.specs.declared.Answer.TheVariants.{TooMany}
 use Rattle.meaning.proofs.Refusals.{refused_untouched, past_none}
@@ -108,7 +108,7 @@ accepted n g m o [] h = absurd (omega arith)
 accepted n g m o (x ∷ []) h = omega arith
 accepted n g m o (x ∷ y ∷ cs) h = omega arith
 
-module _ (n : ℕ) (s : List ℕ) (r c : ℕ) (w o o' : List ℕ) (ok : refuses (formRefusals n s r c w (length o)) ≡ false) (ok' : refuses (formRefusals n s r c w (length o')) ≡ false) where
+module _ (n : ℕ) (s : List ℕ) (r c : ℕ) (w o o' : List ℕ) (ok : refuses (form_refusals n s r c w (length o)) ≡ false) (ok' : refuses (form_refusals n s r c w (length o')) ≡ false) where
   abbrev G : ℕ
   G = unknowns n (rules n s) w
 
@@ -241,7 +241,7 @@ module _ (n : ℕ) (s : List ℕ) (r c : ℕ) (strip lost out x : List ℕ) (a :
   room : 3 * 2 ^ n ≤ length zeros
   room = omega (arith, length-replicate {A = ℕ} (3 * 2 ^ n) 0)
 
-  good : (t : ℕ) → refuses (formRefusals n s r c (lane_of strip lost t) (length zeros)) ≡ false
+  good : (t : ℕ) → refuses (form_refusals n s r c (lane_of strip lost t) (length zeros)) ≡ false
   good t = lane-formed n s r c strip lost out ok t zeros room
 
   -- 18, or what the lanes say
@@ -346,7 +346,7 @@ module _ (n : ℕ) (s : List ℕ) (r c : ℕ) (strip lost out x : List ℕ) (a :
     abbrev B : Reply
     B = leaving y b
 
-    formed : refuses (formRefusals n s r c (lane_of strip lost t) (length o)) ≡ false
+    formed : refuses (form_refusals n s r c (lane_of strip lost t) (length o)) ≡ false
     formed = lane-formed n s r c strip lost out ok t o ro
 
     b_is : b ≡ (L t).answer
@@ -360,11 +360,11 @@ module _ (n : ℕ) (s : List ℕ) (r c : ℕ) (strip lost out x : List ℕ) (a :
         let e : A ≡ leaving out (TooMany (U 0)) = told ∙ ap (λ (d : Bool). pick d (leaving out (TooMany (U 0))) (strip_reply n L out)) (lt-ltb c (U 0) h) in
         let f : L t ≡ leaving zeros (TooMany (U t)) = over n s r c (lane_of strip lost t) zeros (good t) (omega (arith, same_u t)) in
         let ca : code A ≡ 18 = ap code e in
-        let cb : code B ≡ 18 = by (λ (v : Answer). get_or (numbersOf v) 0 0) ∙ ap code f in
+        let cb : code B ≡ 18 = by (λ (v : Answer). get_or (numbers_of v) 0 0) ∙ ap code f in
         record {
           over = (λ z. cb, λ z. ca);
-          unknowns = ap g_of_lem e ∙ sym (by (λ (v : Answer). get_or (numbersOf v) 2 0) ∙ ap g_of_lem f ∙ same_u t);
-          equations = ap m_of_lem e ∙ sym (by (λ (v : Answer). get_or (numbersOf v) 3 0) ∙ ap m_of_lem f);
+          unknowns = ap g_of_lem e ∙ sym (by (λ (v : Answer). get_or (numbers_of v) 2 0) ∙ ap g_of_lem f ∙ same_u t);
+          equations = ap m_of_lem e ∙ sym (by (λ (v : Answer). get_or (numbers_of v) 3 0) ∙ ap m_of_lem f);
           verdict = λ z. absurd (omega arith);
           spoilt = λ z. absurd (omega arith);
           settled = λ z. absurd (omega arith);
@@ -382,9 +382,9 @@ module _ (n : ℕ) (s : List ℕ) (r c : ℕ) (strip lost out x : List ℕ) (a :
           let F = fate t in
           let H = fate (K h) in
           record {
-            over = (λ z. absurd (omega arith), λ z. absurd (not-over (sym (by (λ (v : Answer). get_or (numbersOf v) 0 0)) ∙ z)));
-            unknowns = ap g_of_lem e ∙ H.unknowns ∙ sym F.unknowns ∙ sym (by (λ (v : Answer). get_or (numbersOf v) 2 0));
-            equations = ap m_of_lem e ∙ H.equations ∙ sym F.equations ∙ sym (by (λ (v : Answer). get_or (numbersOf v) 3 0));
+            over = (λ z. absurd (omega arith), λ z. absurd (not-over (sym (by (λ (v : Answer). get_or (numbers_of v) 0 0)) ∙ z)));
+            unknowns = ap g_of_lem e ∙ H.unknowns ∙ sym F.unknowns ∙ sym (by (λ (v : Answer). get_or (numbers_of v) 2 0));
+            equations = ap m_of_lem e ∙ H.equations ∙ sym F.equations ∙ sym (by (λ (v : Answer). get_or (numbers_of v) 3 0));
             verdict = λ z. absurd (omega arith);
             spoilt = λ z. ca;
             settled = λ z. absurd (omega arith);
@@ -396,12 +396,12 @@ module _ (n : ℕ) (s : List ℕ) (r c : ℕ) (strip lost out x : List ℕ) (a :
           let e = sound_told h l in
           let F = fate t in
           let S = alike h l t ht in
-          let cb : code B ≡ code (L t) = by (λ (v : Answer). get_or (numbersOf v) 0 0) in
+          let cb : code B ≡ code (L t) = by (λ (v : Answer). get_or (numbers_of v) 0 0) in
           record {
             over = (λ z. absurd (omega (arith, ap code e, (fine h l 0 (omega arith)).1)), λ z. absurd (not-over (sym cb ∙ z)));
-            unknowns = ap g_of_lem e ∙ sym F.unknowns ∙ sym (by (λ (v : Answer). get_or (numbersOf v) 2 0));
-            equations = ap m_of_lem e ∙ sym F.equations ∙ sym (by (λ (v : Answer). get_or (numbersOf v) 3 0));
-            verdict = λ z. (cb ∙ S.0 ∙ sym (ap code e), by (λ (v : Answer). get_or (numbersOf v) 4 0) ∙ S.1 ∙ sym (ap d_of_lem e));
+            unknowns = ap g_of_lem e ∙ sym F.unknowns ∙ sym (by (λ (v : Answer). get_or (numbers_of v) 2 0));
+            equations = ap m_of_lem e ∙ sym F.equations ∙ sym (by (λ (v : Answer). get_or (numbers_of v) 3 0));
+            verdict = λ z. (cb ∙ S.0 ∙ sym (ap code e), by (λ (v : Answer). get_or (numbers_of v) 4 0) ∙ S.1 ∙ sym (ap d_of_lem e));
             spoilt = λ z. absurd (omega (arith, cb, (fine h l t ht).1));
             settled = λ z j k d.
                 let w : get_or y j 0 ≡ settled_in n L t j = value j k in
@@ -415,7 +415,7 @@ module _ (n : ℕ) (s : List ℕ) (r c : ℕ) (strip lost out x : List ℕ) (a :
         where
           value : (j : ℕ) → j < 2 ^ n → get_or y j 0 ≡ settled_in n L t j
           value j k =
-              let cb : code (decoding n s r c (lane_of strip lost t) o) ≤ 1 = omega (arith, ap code (sym q), by (λ (v : Answer). get_or (numbersOf v) 0 0), (fine h l t ht).1) in
+              let cb : code (decoding n s r c (lane_of strip lost t) o) ≤ 1 = omega (arith, ap code (sym q), by (λ (v : Answer). get_or (numbers_of v) 0 0), (fine h l t ht).1) in
               ap (λ (v : Reply). get_or v.bytes j 0) q ∙ any_settled n s r c (lane_of strip lost t) o zeros formed (good t) (low h t) cb j k
 
     -- each lane's answer is what the decoder gives that lane alone
@@ -423,14 +423,14 @@ module _ (n : ℕ) (s : List ℕ) (r c : ℕ) (strip lost out x : List ℕ) (a :
     each_lane = ⊎_elim (λ (h : U 0 ≤ c). ⊎_elim (λ (l : 512 ≤ K h). lane-sound h l) (λ (l : K h < 512). lane_bad h l) (le_or_lt 512 (K h))) (λ (h : c < U 0). lane_over h) (le_or_lt (U 0) c)
 
     -- 2 names the first lane that the decoder calls inconsistent
-    pub first_lane : code A ≡ 2 → (t ≡ get_or (numbersOf a) 1 0 → code B ≡ 2) × (t < get_or (numbersOf a) 1 0 → code B ≡ 2 → ⊥)
+    pub first_lane : code A ≡ 2 → (t ≡ get_or (numbers_of a) 1 0 → code B ≡ 2) × (t < get_or (numbers_of a) 1 0 → code B ≡ 2 → ⊥)
     first_lane z = ⊎_elim (λ (h : U 0 ≤ c). ⊎_elim (λ (l : 512 ≤ K h). absurd (omega (arith, ap code (sound_told h l), (fine h l 0 (omega arith)).1))) (λ (l : K h < 512). named h l) (le_or_lt 512 (K h)))
-        (λ (h : c < U 0). absurd (omega (arith, (lane_over h).over.1 (by (λ (v : Answer). get_or (numbersOf v) 0 0) ∙ ap code (over n s r c (lane_of strip lost t) zeros (good t) (omega (arith, same_u t))))))) (le_or_lt (U 0) c)
+        (λ (h : c < U 0). absurd (omega (arith, (lane_over h).over.1 (by (λ (v : Answer). get_or (numbers_of v) 0 0) ∙ ap code (over n s r c (lane_of strip lost t) zeros (good t) (omega (arith, same_u t))))))) (le_or_lt (U 0) c)
       where
-        named : (h : U 0 ≤ c) → K h < 512 → (t ≡ get_or (numbersOf a) 1 0 → code B ≡ 2) × (t < get_or (numbersOf a) 1 0 → code B ≡ 2 → ⊥)
+        named : (h : U 0 ≤ c) → K h < 512 → (t ≡ get_or (numbers_of a) 1 0 → code B ≡ 2) × (t < get_or (numbers_of a) 1 0 → code B ≡ 2 → ⊥)
         named h l =
-            let e : get_or (numbersOf a) 1 0 ≡ K h = ap (λ (v : Reply). get_or (numbersOf v.answer) 1 0) (bad_told h l) in
-            let cb : code B ≡ code (L t) = by (λ (v : Answer). get_or (numbersOf v) 0 0) in
+            let e : get_or (numbers_of a) 1 0 ≡ K h = ap (λ (v : Reply). get_or (numbers_of v.answer) 1 0) (bad_told h l) in
+            let cb : code B ≡ code (L t) = by (λ (v : Answer). get_or (numbers_of v) 0 0) in
             (λ u. cb ∙ ap (λ (i : ℕ). code (L i)) (u ∙ e) ∙ at_bad h l, λ u v. true≢false (sym (eq-eqb (code (L t)) 2 (sym cb ∙ v)) ∙ before_bad h t ht (omega arith)))
 
   -- ---- 0 exactly where no record is marked

@@ -16,7 +16,7 @@ use Rattle.bits.specs.Words.{bit_at}
 use Rattle.meaning.specs.Limits.{largest_ceiling}
 use Rattle.meaning.specs.Sheet.{rules}
 use Rattle.meaning.specs.Open.{unknowns}
-use Rattle.meaning.specs.Answers.{Refusal, ◌⇒◌, first_of, sheetRefusals, wordRefusals, Reply, leaving, writing, numbersOf, decoding}
+use Rattle.meaning.specs.Answers.{Refusal, ◌⇒◌, first_of, sheet_refusals, word_refusals, Reply, leaving, writing, numbers_of, decoding}
 use Rattle.meaning.specs.declared.Answer.{Answer}
 use Rattle.meaning.specs.declared.Answer.TheVariants.{LaneInconsistent, BadLength, BadCeiling, TooMany}
 use Rattle.lanes.specs.Lanes.{up_to, packed}
@@ -36,7 +36,7 @@ lane_of strip lost t = tab (length lost) (λ (j : ℕ). pick (eqb (get_or lost j
 -- the sheet's faults; 14: the strip is not 64N bytes, or there are not N marks; 15: the first mark above 1; 16: an output under 65N bytes; 17
 unfoldable pub repair_form : ℕ → List ℕ → ℕ → ℕ → ℕ → List ℕ → ℕ → List Refusal
 repair_form n s r c strip lost room =
-    sheetRefusals n s r ++ ((not (eqb strip (2 ^ n * 64)) ⇒ BadLength) ∷ wordRefusals (2 ^ n) 1 (65 * 2 ^ n) lost room) ++ ((ltb largest_ceiling c ⇒ BadCeiling) ∷ [])
+    sheet_refusals n s r ++ ((not (eqb strip (2 ^ n * 64)) ⇒ BadLength) ∷ word_refusals (2 ^ n) 1 (65 * 2 ^ n) lost room) ++ ((ltb largest_ceiling c ⇒ BadCeiling) ∷ [])
 
 -- then 18: g above the ceiling; g is that of every lane
 unfoldable pub repair_refusals : ℕ → List ℕ → ℕ → ℕ → List ℕ → List ℕ → List ℕ → List Refusal
@@ -48,11 +48,11 @@ repair_refusals n s r c strip lost out =
 
 -- its code is 2
 abbrev pub is_inconsistent : Answer → Bool
-is_inconsistent a = eqb (get_or (numbersOf a) 0 0) 2
+is_inconsistent a = eqb (get_or (numbers_of a) 0 0) 2
 
 -- 2, the lane, g, m
 abbrev pub at_lane : ℕ → Answer → Answer
-at_lane t a = LaneInconsistent t (get_or (numbersOf a) 2 0) (get_or (numbersOf a) 3 0)
+at_lane t a = LaneInconsistent t (get_or (numbers_of a) 2 0) (get_or (numbers_of a) 3 0)
 
 module _ (n : ℕ) (lane : ℕ → Reply) where
   -- 0, 1, or 2 where candidates differ

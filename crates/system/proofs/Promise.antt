@@ -32,7 +32,7 @@ use Rattle.model.proofs.Steps.{length-checks}
 use Rattle.model.proofs.RowValues.{rows-wide, system-wide, rows-most, rows_next, rows_sizes, rows-equations}
 use Rattle.verdict.specs.OffRows.{constant}
 use Rattle.verdict.proofs.Lanes.{lane-within}
-use Rattle.meaning.specs.Answers.{checkLength}
+use Rattle.meaning.specs.Answers.{check_length}
 use Rattle.sheet.proofs.Shapes.{shaped_when}
 use Rattle.descent.specs.Descending.{widest, roomy, filled, descended, descending, written, found}
 use Rattle.descent.specs.Descending as descent
@@ -176,7 +176,7 @@ module _ (n r most c w : ℕ) (s d vals us eqs : List ℕ) where
 
   -- ---- what a caller has
 
-  pub all_fit : n ≤ largest_n → length s ≡ 2 ^ n * record_bytes → length d ≡ 2 ^ n → checkLength r ≡ true → c < w → w ≤ widest → most ≤ 64 * c
+  pub all_fit : n ≤ largest_n → length s ≡ 2 ^ n * record_bytes → length d ≡ 2 ^ n → check_length r ≡ true → c < w → w ≤ widest → most ≤ 64 * c
       → length vals ≡ 2 ^ n * w → length us ≡ 2 ^ n * w → length eqs ≡ (2 ^ n + r) * w
       → fitting n (length s) (length d) r most c w (length vals) (length us) (length eqs) ≡ true
   unfolding fitting spaced descent.fitting roomy filled

@@ -14,18 +14,18 @@ use mir.Val.{Fits}
 use mir.Syntax.{w64}
 use borrow.Author.Tests.{eqb-true, eqb-false, le-leb, lt-leb, eq-eqb, ne_eqb, not-true, not-false}
 use Rattle.bits.proofs.Tests.{and_l, and_r}
-use Rattle.meaning.specs.Answers.{checkLength}
+use Rattle.meaning.specs.Answers.{check_length}
 use Rattle.sheet.proofs.Shapes.{check-length-most}
 use Rattle.descent.specs.Descending.{widest}
 use Rattle.system.specs.Solving.{longest_check, spaced}
 
-module _ (r w v e : ℕ) {t : Bool} (p : t ≡ checkLength r) where
+module _ (r w v e : ℕ) {t : Bool} (p : t ≡ check_length r) where
   pub spaced-check : not t ≡ true → spaced r w v e ≡ false
   unfolding spaced
   spaced-check q = rw (sym p ∙ not-true t q)
 
   module _ (q : not t ≡ false) where
-    check : checkLength r ≡ true
+    check : check_length r ≡ true
     check = sym p ∙ not-false t q
 
     pub spaced-wide : widest < w → spaced r w v e ≡ false
@@ -49,7 +49,7 @@ module _ (r w v e : ℕ) {t : Bool} (p : t ≡ checkLength r) where
           go true q = let z = eqb-true (e - v) (r * w) q in eq-eqb e (v + r * w) (omega arith)
           go false q = let z = eqb-false (e - v) (r * w) q in ne_eqb e (v + r * w) (λ y. z (omega arith))
 
-pub length-checked : {r : ℕ} → (r ≡ 0) ⊎ ((r ≡ 6) ⊎ (r ≡ 11)) → checkLength r ≡ true
+pub length-checked : {r : ℕ} → (r ≡ 0) ⊎ ((r ≡ 6) ⊎ (r ≡ 11)) → check_length r ≡ true
 length-checked (inl e) = rw e refl
 length-checked (inr (inl e)) = rw e refl
 length-checked (inr (inr e)) = rw e refl
@@ -60,6 +60,6 @@ length_longest (inl e) = omega arith
 length_longest (inr (inl e)) = omega arith
 length_longest (inr (inr e)) = omega arith
 
-pub spaced-true : (r w v e : ℕ) → spaced r w v e ≡ true → (checkLength r ≡ true) × (e ≡ v + r * w)
+pub spaced-true : (r w v e : ℕ) → spaced r w v e ≡ true → (check_length r ≡ true) × (e ≡ v + r * w)
 unfolding spaced
-spaced-true r w v e h = let k = and_r (checkLength r) _ h in (and_l _ _ h, eqb-true e (v + r * w) (and_r (leb w widest) _ k))
+spaced-true r w v e h = let k = and_r (check_length r) _ h in (and_l _ _ h, eqb-true e (v + r * w) (and_r (leb w widest) _ k))

@@ -16,7 +16,7 @@ use Rattle.meaning.specs.Open.{unknowns}
 use Rattle.model.specs.Model.{Out}
 use Rattle.model.specs.RowValues.{rows_out, rows_system}
 use Rattle.gf2.specs.Solve.{Sys, solve}
-use Rattle.meaning.specs.Answers.{checkLength}
+use Rattle.meaning.specs.Answers.{check_length}
 use Rattle.checks.specs.Checking.{check_of}
 use Rattle.descent.specs.Descending.{widest}
 use Rattle.descent.specs.Descending as descent
@@ -30,7 +30,7 @@ longest_check = 11
 
 -- there is a check of length r, and r rows more for equations than for symbols
 unfoldable pub spaced : ℕ → ℕ → ℕ → ℕ → Bool
-spaced r w vals eqs = checkLength r && (leb w widest && eqb eqs (vals + r * w))
+spaced r w vals eqs = check_length r && (leb w widest && eqb eqs (vals + r * w))
 
 -- and the rest is as a descent asks
 unfoldable pub fitting : ℕ → ℕ → ℕ → ℕ → ℕ → ℕ → ℕ → ℕ → ℕ → ℕ → Bool
@@ -68,7 +68,7 @@ solving n r most c w sheet word vals us eqs =
 pub record Settling (c w n : ℕ) (sheet : List ℕ) (r m : ℕ) (vals us eqs : List ℕ) : Type 0 where
   pub small : n ≤ largest_n
   pub records : length sheet ≡ 2 ^ n * record_bytes
-  pub check : checkLength r ≡ true
+  pub check : check_length r ≡ true
   pub constant : c < w
   pub narrow : w ≤ widest
   pub rows_v : length vals ≡ 2 ^ n * w

@@ -7,7 +7,7 @@ use lib.Seq.{take_all}
 use lib.ListN.{length, take, get_or}
 use lib.Pow.{pow_pos}
 use borrow.Author.Rules.{rules}
-use Rattle.meaning.specs.Answers.{isOne}
+use Rattle.meaning.specs.Answers.{is_one}
 use Rattle.bits.proofs.Words.{shl_one}
 use Rattle.division.specs.Division.{poly_word, Fed}
 use Rattle.division.proofs.Division.{bit-small, divisor, length-small, starts, feed_over, feed_under}
@@ -15,7 +15,7 @@ use Rattle.division.proofs.feed.Statement.{statement}
 use Rattle.division.proofs.feed.Tie as tie
 
 abbrev invariant-loop : tie.invariant-loop
-invariant-loop bits r p limit s₀ i₀ s i = (i ≤ length bits) × (p ≡ poly_word r) × (limit ≡ 2 ^ r) × Fed r (map isOne (take i bits)) s
+invariant-loop bits r p limit s₀ i₀ s i = (i ≤ length bits) × (p ≡ poly_word r) × (limit ≡ 2 ^ r) × Fed r (map is_one (take i bits)) s
 
 abbrev decreases-loop : tie.decreases-loop
 decreases-loop bits r p limit s₀ i₀ s i = length bits - i
@@ -47,7 +47,7 @@ one-requires : tie.Need-one-requires invariant-loop decreases-loop
 one-requires c κs = tt
 
 add-t : tie.Need-overflow-add-t invariant-loop decreases-loop
-add-t c = record { fits = omega (arith, c.one.ensures, bit-small (isOne (get_or c.before.before.before.before.before.before.args.bits.now c.before.before.before.loop.i 0)), length-small _ c.before.before.before.before.before.before.requires, c.before.before.before.loop.invariant.3.small) }
+add-t c = record { fits = omega (arith, c.one.ensures, bit-small (is_one (get_or c.before.before.before.before.before.before.args.bits.now c.before.before.before.loop.i 0)), length-small _ c.before.before.before.before.before.before.requires, c.before.before.before.loop.invariant.3.small) }
 
 add-i : tie.Need-overflow-add-i invariant-loop decreases-loop
 add-i c = search rules

@@ -1,11 +1,11 @@
 use borrow.Author.Rules.{rules}
 use Rattle.meaning.specs.Limits.{record_bytes, mask_bytes}
-use Rattle.sheet.proofs.Checking.{bad_shape, bad_record_lem, holds-nothing, bad_check, done}
+use Rattle.sheet.proofs.Checking.{bad_shape_lem, bad_record_lem, holds-nothing, bad_check_lem, done}
 use Rattle.sheet.proofs.check_sheet.Statement.{statement}
 use Rattle.sheet.proofs.check_sheet.Tie as tie
 
 returns : tie.Need-returns
-returns c = bad_shape _ _ _ c.before.recorded.ensures c.if1.true
+returns c = bad_shape_lem _ _ _ c.before.recorded.ensures c.if1.true
 
 returns-2 : tie.Need-returns-2
 unfolding record_bytes mask_bytes
@@ -27,7 +27,7 @@ returns-4 c =
     let check = c.before.before in
     let count = check.before in
     let call = count.before.before in
-    bad_check _ _ _ call.before.before.recorded.ensures call.before.if1.false _ call.first-bad.ensures count.before.if2.false
+    bad_check_lem _ _ _ call.before.before.recorded.ensures call.before.if1.false _ call.first-bad.ensures count.before.if2.false
     _ count.count-free.ensures c.before.if3.false _ check.bad-check.ensures c.if4.true
 
 returns-5 : tie.Need-returns-5

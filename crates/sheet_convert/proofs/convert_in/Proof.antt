@@ -5,7 +5,7 @@ use mathlib.Core.List.{List}
 use borrow.Author.Rules.{rules}
 use Rattle.bits.specs.Vectors.{tab}
 use Rattle.meaning.specs.Limits.{layout, old_layout, record_bytes, mask_bytes, old_record_bytes, old_mask_bytes}
-use Rattle.meaning.specs.Answers.{badShape}
+use Rattle.meaning.specs.Answers.{bad_shape}
 use Rattle.sheet_convert.specs.Conversion.{wide_at, widened, handing}
 use Rattle.sheet_convert.proofs.Converting.{new_shape, handed}
 use Rattle.sheet_convert.proofs.convert_in.Statement.{statement}
@@ -25,7 +25,7 @@ hand-out-requires c κs =
     let made = c.before.before.before.before in
     let start = made.before.before.before.before.before in
     let A = start.args in
-    ap (badShape A.n) (filled A.n _ A.old.now _ made.widen.ensures start.requires.1) ∙ new_shape A.n A.old.now start.requires.0
+    ap (bad_shape A.n) (filled A.n _ A.old.now _ made.widen.ensures start.requires.1) ∙ new_shape A.n A.old.now start.requires.0
 
 returns : tie.Need-returns
 returns c =

@@ -11,7 +11,7 @@ use Rattle.meaning.specs.Stream.{header, piece_at}
 use Rattle.meaning.proofs.Heading.{header-long}
 use Rattle.meaning.proofs.Cutting.{begins, end_room, piece_is}
 use Rattle.strip_stream.specs.Strips.{strip_bytes, part_bytes, strip_reply}
-use Rattle.strip_stream.proofs.Cases.{strip-pos, reply_long}
+use Rattle.strip_stream.proofs.Cases.{strip-pos, reply-long}
 use borrow.Author.Rules.{rules}
 use native.Mathlib.Omega.{arith}
 use Rattle.strip_stream.proofs.each.Statement.{statement}
@@ -149,7 +149,7 @@ loop-again c =
       c.before.before.before.repaired.given.1 ∙ l.invariant.1,
       c.before.records.given.1 ∙ l.invariant.2,
       put_record (at_part in-loop).part_bytes.result (part A.n A.sheet.now A.r A.ceiling A.lost.now A.input.now)
-          (λ i. reply_long A.n A.sheet.now A.r A.ceiling A.lost.now _ ∙ sym (at_part in-loop).part_bytes.ensures) A.repaired.now l.i l.repaired _ l.invariant.3
+          (λ i. reply-long A.n A.sheet.now A.r A.ceiling A.lost.now _ ∙ sym (at_part in-loop).part_bytes.ensures) A.repaired.now l.i l.repaired _ l.invariant.3
           (at_one.one.ensures.0 ∙ ap (λ (w : List ℕ). (strip_reply A.n A.sheet.now A.r A.ceiling A.lost.now w).bytes) e),
       put_record head_bytes (head A.n A.sheet.now A.r A.ceiling A.lost.now A.input.now)
           (λ i. header-long (reply A.n A.sheet.now A.r A.ceiling A.lost.now A.input.now i).answer) A.records.now l.i l.records _ l.invariant.4

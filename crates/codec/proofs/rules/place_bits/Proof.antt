@@ -9,21 +9,21 @@ use lib.Dec.{eqb}
 use Rattle.bits.specs.Vectors.{◌⊕◌, odd}
 use Rattle.meaning.specs.Limits.{record_bytes, mask_bytes}
 use Rattle.meaning.specs.Sheet.{byte, mask}
-use Rattle.meaning.specs.Answers.{isOne}
+use Rattle.meaning.specs.Answers.{is_one}
 use Rattle.codec.specs.Packed.{held}
 use Rattle.codec.proofs.Placing.{Placing, starts, free-room, free_goes, frozen_goes, placed, free-bit, small}
 use Rattle.codec.proofs.rules.place_bits.Statement.{statement}
 use Rattle.codec.proofs.rules.place_bits.Tie as tie
 
 abbrev invariant-loop : tie.invariant-loop
-invariant-loop sheet free u₀ values₀ next₀ i₀ u values next i = Placing sheet (length u₀) (map isOne free) u values next i
+invariant-loop sheet free u₀ values₀ next₀ i₀ u values next i = Placing sheet (length u₀) (map is_one free) u values next i
 
 abbrev decreases-loop : tie.decreases-loop
 decreases-loop sheet free u₀ values₀ next₀ i₀ u values next i = length u₀ - i
 
 loop-holds : tie.Need-loop-init invariant-loop decreases-loop
 unfolding mask_bytes
-loop-holds c = let start = c.before.before.before in starts start.args.sheet.now _ _ start.args.u.now refl (length-map start.args.free.now isOne ∙ start.requires.1.1)
+loop-holds c = let start = c.before.before.before in starts start.args.sheet.now _ _ start.args.u.now refl (length-map start.args.free.now is_one ∙ start.requires.1.1)
 
 is-free-requires : tie.Need-is-free-requires invariant-loop decreases-loop
 is-free-requires c κs = tt
@@ -31,7 +31,7 @@ is-free-requires c κs = tt
 shared-slice-read-b : tie.Need-shared-slice-read-b invariant-loop decreases-loop
 shared-slice-read-b c =
     let turn = c.before.before.before in
-    rw (← (length-map turn.before.before.before.before.before.args.free.now isOne))
+    rw (← (length-map turn.before.before.before.before.before.args.free.now is_one))
     (free-room _ _ _ _ _ _ _ (rw turn.before.loop.invariant.long at turn.loop-test.true) turn.before.loop.invariant (sym c.before.before.is_free.ensures ∙ c.before.if1.true))
 
 add_next : tie.Need-overflow-add-next invariant-loop decreases-loop
@@ -63,7 +63,7 @@ remember-requires c κs =
           (λ w.
           let e = sym c.before.before.is_free.ensures ∙ w.0.taken in
           let h : turn.before.loop.i < length start.args.u.now = rw inv.long at turn.loop-test.true in
-          small _ (get_or (map isOne start.args.free.now) turn.before.loop.next false) (w.3 ∙ free-bit start.args.free.now _ start.requires.1.0 (free-room _ _ _ _ _ _ _ h inv e)))
+          small _ (get_or (map is_one start.args.free.now) turn.before.loop.next false) (w.3 ∙ free-bit start.args.free.now _ start.requires.1.0 (free-room _ _ _ _ _ _ _ h inv e)))
           (λ w. small _ (eqb (byte start.args.sheet.now turn.before.loop.i 1) 1 ⊕ odd (mask start.args.sheet.now turn.before.loop.i) (held turn.before.loop.values)) (w.4 ∙ w.2.ensures))
           c.before.if1.branch,
     )
