@@ -1,4 +1,6 @@
 // What an answer says: its five numbers, the start of its record, and whether a call can go on. And the pieces of an input.
+#![tactic(auto)]
+
 ghost use Rattle.std.specs.Prelude.{◌≡◌};
 ghost use Rattle.meaning.specs.Answers.{numbers_of, is_done};
 ghost use Rattle.meaning.specs.Stream.{header};

@@ -62,7 +62,7 @@ module _ {A : Type 0} where
       go true e f k = (x, Memᴰ.head refl, e)
       go false e f k = let t = f k in (t.0, Memᴰ.tail t.1, t.2)
 
-  pub mem_any : (p : A → Bool) {l : List A} {a : A} → Memᴰ a l → p a ≡ true → any p l ≡ true
+  pub mem_any : (p : A → Bool) {a : A} {l : List A} → Memᴰ a l → p a ≡ true → any p l ≡ true
   mem_any p (Memᴰ.head e) h = rw (← e, h)
   mem_any p (Memᴰ.tail {x = x} {xs = l} m) h = or_r (p x) (any p l) (mem_any p m h)
     where
@@ -70,7 +70,7 @@ module _ {A : Type 0} where
       or_r true b q = refl
       or_r false b q = q
 
-  pub all_mem : (p : A → Bool) {l : List A} {a : A} → Memᴰ a l → all p l ≡ true → p a ≡ true
+  pub all_mem : (p : A → Bool) {a : A} {l : List A} → Memᴰ a l → all p l ≡ true → p a ≡ true
   all_mem p (Memᴰ.head {x = x} {xs = l} e) h = rw e (and_l (p x) (all p l) h)
   all_mem p (Memᴰ.tail {x = x} {xs = l} m) h = all_mem p m (and_r (p x) (all p l) h)
 
@@ -90,7 +90,7 @@ module _ {A : Type 0} where
       go true e f k = ⊎_elim (λ q. (Memᴰ.head q, rw q e)) (λ t. (Memᴰ.tail (f t).0, (f t).1)) (Memᴰ.cases_cons k)
       go false e f k = (Memᴰ.tail (f k).0, (f k).1)
 
-  pub mem_filter : (p : A → Bool) {l : List A} {a : A} → Memᴰ a l → p a ≡ true → Memᴰ a (filter p l)
+  pub mem_filter : (p : A → Bool) {a : A} {l : List A} → Memᴰ a l → p a ≡ true → Memᴰ a (filter p l)
   mem_filter p {a = a} (Memᴰ.head {x = x} {xs = l} e) h = rw (ap p (sym e) ∙ h) (Memᴰ.head e)
   mem_filter p {a = a} (Memᴰ.tail {x = x} {xs = l} m) h = go (p x) (mem_filter p m h)
     where

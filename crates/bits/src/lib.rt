@@ -1,4 +1,6 @@
 // Functions on machine words that several crates call. The laws of bits, vectors and words are in proofs/.
+#![tactic(auto)]
+
 ghost use Rattle.std.specs.Prelude.{◌≡◌};
 ghost use Rattle.bits.specs.Words.{parity_of};
 

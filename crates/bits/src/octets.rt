@@ -1,5 +1,5 @@
 // Words in lent slices of bytes: eight bytes from a place on, the lowest first.
-ghost use Rattle.std.specs.Prelude.{◌+◌, ◌<◌, ◌≤◌, length};
+ghost use Rattle.std.specs.Prelude.{◌≡◌, ◌+◌, ◌<◌, ◌≤◌, ◌++◌, length, take, drop};
 ghost use Rattle.bits.specs.Bytes.{Holds, EightOf};
 
 // A byte as a word.
@@ -51,4 +51,12 @@ pub fn eight(s: &[u8], at: usize) -> u64
         return 0;
     }
     joined(s, at)
+}
+
+// As many bytes of `from` as `to` has room for go to its start. The others stay.
+pub fn copy(from: &[u8], to: &mut [u8])
+    ensures { to.new ≡ take (length to.old) from.now ++ drop (length from.now) to.old }
+{
+    let k = from.len().min(to.len());
+    to[..k].copy_from_slice(&from[..k]);
 }

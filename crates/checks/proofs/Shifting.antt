@@ -5,7 +5,7 @@
 --     Started, started-..      the register with its first words set
 --     Dividing, dividing-..    the free positions of a column, fed so far
 use mathlib.Core.Path.{◌≡◌, refl, sym, ap, ap₂, ◌∙◌}
-use Prim.Native.Nat.{ℕ, zero, suc, ◌+◌, ◌-◌, ◌*◌, ◌≤◌, ◌<◌}
+use Prim.Native.Nat.{ℕ, zero, suc, ◌+◌, ◌*◌, ◌≤◌, ◌<◌}
 use native.Mathlib.Omega.{arith}
 use native.Mathlib.Numerals.{add-one}
 use mathlib.Core.Bool.{Bool, true, false}
@@ -19,7 +19,7 @@ use Rattle.bits.specs.Vectors.{pick, tab}
 use Rattle.bits.proofs.Tests.{length-tab, tab-at, tab_below}
 use Rattle.bits.proofs.RowLaws.{row_fit}
 use Rattle.meaning.specs.Limits.{leads}
-use Rattle.meaning.specs.Sheet.{Rule, free, rule_at, byte}
+use Rattle.meaning.specs.Sheet.{Rule, rule_at, byte}
 use Rattle.meaning.specs.Check.{poly}
 use Rattle.meaning.proofs.Remainder.{length-poly}
 use Rattle.model.specs.Model.{free_of, sums, scaled, shift_of, rest_of, checks}

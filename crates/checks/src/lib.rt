@@ -1,4 +1,6 @@
 // The check's rows, behind the equations of a descent.
+#![tactic(auto)]
+
 ghost use Rattle.std.specs.Prelude.{◌≡◌};
 ghost use Rattle.checks.specs.Checking.{checked, checking};
 

@@ -15,7 +15,7 @@ use lib.Dec.{eqb}
 use Rattle.bits.specs.Vectors.{◌⊕◌, bit, tab, odd}
 use Rattle.bits.proofs.Tests.{length-tab}
 use Rattle.meaning.specs.Limits.{mask_bytes}
-use Rattle.meaning.specs.Sheet.{byte, mask, Rule, free, rule_at, frees}
+use Rattle.meaning.specs.Sheet.{byte, mask, Rule, rule_at, frees}
 use Rattle.meaning.specs.Check.{free_bits}
 use Rattle.meaning.specs.Payload.{place}
 use Rattle.meaning.specs.Answers.{is_one}

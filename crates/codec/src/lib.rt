@@ -1,5 +1,7 @@
 // Encoding and read-back. Every function here is total: what is faulty is refused with its number,
 // in 01's order, and a refusal leaves the output as found.
+#![tactic(auto)]
+
 ghost use Rattle.std.specs.Prelude.{◌≡◌, map, ◌-◌, ◌^◌, ◌≤◌, length};
 ghost use Rattle.bits.specs.Vectors.{bit, pick, tab};
 ghost use Rattle.meaning.specs.Limits.{largest_n};
@@ -78,7 +80,7 @@ fn vector_behind(n: usize, word: &[u8], u: &mut [u8])
     requires { AreBits word.now × (length word.now ≡ 2 ^ n) × (length u.old ≡ 2 ^ n) }
     ensures { u.new ≡ map bit (polar n (map is_one word.now)) }
 {
-    bytes::copy(word, u);
+    bits::octets::copy(word, u);
     polar::transform(u, n);
 }
 
@@ -112,7 +114,7 @@ fn extract(
     vector_behind(n, word, u);
     let whole = lawful(sheet, r, u, free);
     if whole {
-        bytes::copy(&free[0..m], out);
+        bits::octets::copy(&free[0..m], out);
     }
     whole
 }

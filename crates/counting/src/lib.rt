@@ -1,5 +1,7 @@
 // The number of unknowns of a word, from what is erased alone: its open free positions, by halves. A symbol above 1 is
 // erased.
+#![tactic(auto)]
+
 ghost use Rattle.std.specs.Prelude.{◌≡◌, ◌+◌, ◌*◌, ◌^◌, ◌≤◌, ◌<◌, length};
 ghost use Rattle.bits.specs.Vectors.{any};
 ghost use Rattle.meaning.specs.Limits.{mask_bytes};

@@ -11,14 +11,12 @@ use Prim.Native.Nat.{ℕ, ◌+◌, ◌*◌, ◌-◌, ◌/◌, ◌^◌, ◌≤◌
 use native.Mathlib.Nat.{add-mul, mul-le-mul}
 use native.Mathlib.Omega.{arith}
 use mathlib.Core.Bool.{Bool, true, false}
-use mathlib.Core.List.{List, [], ◌∷◌, ◌++◌, append_assoc}
+use mathlib.Core.List.{List, [], ◌∷◌, ◌++◌}
 use lib.ListN.{length, take, length-take}
 use lib.Dec.{ltb}
 use lib.Pow.{pow_mono}
-use borrow.Author.Tests.{lt-ltb, le-ltb, ltb-false}
+use borrow.Author.Tests.{lt-ltb, le-ltb}
 use borrow.Rule.Slice.PartMut.{post_of, same_len_mid}
-use Rattle.bits.specs.Vectors.{pick}
-use Rattle.bits.proofs.Tests.{or_false_l}
 use Rattle.meaning.specs.Limits.{largest_n, record_bytes, largest_ceiling}
 use Rattle.meaning.specs.Sheet.{rules}
 use Rattle.meaning.specs.Codewords.{candidates}
@@ -26,7 +24,7 @@ use Rattle.meaning.specs.Open.{unknowns, equations}
 use Rattle.meaning.specs.Answers.{Refusal, Reply, ◌⇒◌, is_done, refuses, fault, sheet_refusals, word_refusals, call_refusals, form_refusals, decode_refusals, leaving, verdict, decoding}
 use Rattle.meaning.specs.declared.Answer.{Answer}
 use Rattle.meaning.specs.declared.Answer.TheVariants.{Done, BadCeiling, TooMany}
-use Rattle.meaning.proofs.Refusals.{tried_done, tried_refused, past_none, none_append, both-none}
+use Rattle.meaning.proofs.Refusals.{tried_done, tried_refused, past_none, both-none}
 use Rattle.meaning.proofs.Forms.{form_parts}
 use Rattle.sheet.proofs.Calls.{size_is, call_same}
 use Rattle.sheet.proofs.Shapes.{shaped_when}

@@ -16,7 +16,7 @@ use lib.Seq.{paste, take-take, drop-drop, take_at, drop_at}
 use lib.Dec.{eqb}
 use borrow.Author.Tests.{eq-eqb, ne_eqb}
 use Rattle.bits.specs.Vectors.{bit, filter, pick}
-use Rattle.bits.specs.Rows.{Row, part, row, has, nought_row}
+use Rattle.bits.specs.Rows.{Row, part, row, nought_row}
 use Rattle.bits.proofs.RowLaws.{row_fit, row_room}
 use Rattle.bits.proofs.RowsWritten.{paste-set, row_same, row_other}
 use Rattle.gf2.specs.Solve.{lead}

@@ -1,7 +1,7 @@
 -- Decoding, part by part.
 --     deciding       what is left once no fault of form is found: too many unknowns, or the verdict
 --     Formed         no fault of form: what these refusals leave
-use Rattle.std.specs.Prelude.{◌≡◌, ◌⊎◌, ℕ, ◌*◌, ◌^◌, ◌≤◌, true, List, ◌++◌, length, ltb}
+use Rattle.std.specs.Prelude.{◌≡◌, ◌⊎◌, ℕ, ◌*◌, ◌^◌, ◌≤◌, true, List, length, ltb}
 use Rattle.bits.specs.Vectors.{pick}
 use Rattle.meaning.specs.Limits.{largest_n, record_bytes, largest_ceiling}
 use Rattle.meaning.specs.Sheet.{rules, frees, early}

@@ -1,5 +1,7 @@
 // The decoder: what can be known of a word with erasures. It is total: what is faulty is refused with its number, in 01's
 // order, and a refusal leaves the output as found.
+#![tactic(auto)]
+
 ghost use Rattle.std.specs.Prelude.{◌≡◌, ◌+◌, ◌*◌, ◌^◌, ◌≤◌, ◌<◌, length, replicate};
 ghost use Rattle.meaning.specs.Answers.{fault, form_refusals, reply, decoding};
 ghost use Rattle.descent.specs.Descending.{widest};

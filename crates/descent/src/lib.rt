@@ -1,4 +1,6 @@
 // The decoder's descent: rows of a word's symbols, of u and of the equations, over any number of words to a row.
+#![tactic(auto)]
+
 ghost use Rattle.std.specs.Prelude.{◌≡◌};
 ghost use Rattle.descent.specs.Descending.{descended, descending};
 
@@ -8,7 +10,7 @@ mod limits;
 mod word;
 
 // How a descent ended.
-#[derive(Drop)]
+#[derive(Clone, Copy)]
 pub enum Descent {
     // What was handed over does not fit together. Nothing was changed.
     Misfit,

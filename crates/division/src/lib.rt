@@ -1,5 +1,7 @@
 // The check: division by the check polynomial, one bit at a time. The remainder so far is a word of r bits, D^(r-1) highest.
 // A byte counts as the bit 1 where it is 1, and as 0 otherwise.
+#![tactic(auto)]
+
 ghost use Rattle.std.specs.Prelude.{◌≡◌, ◌⊎◌, Bool, false, List, map, ◌++◌, ◌+◌, ◌≤◌, ◌<◌, ◌^◌, length, replicate};
 ghost use Rattle.meaning.specs.Answers.{is_one};
 ghost use Rattle.meaning.specs.Limits.{leads};
@@ -81,7 +83,7 @@ fn attach(bits: &[u8], r: usize, out: &mut [u8])
     requires out_len { length out.old ≡ length bits.now + r }
     ensures { out.new ≡ bits.now ++ map bit (remainder (poly r) (leads r ++ map is_one bits.now)) }
 {
-    bytes::copy(bits, out);
+    bits::octets::copy(bits, out);
     let s = flush(feed(bits, r), r);
     let k = bits.len();
     spell(s, &mut out[k..]);

@@ -3,6 +3,8 @@
 // A row is w words of 64 bits. Its first c words are coefficients: bit b % 64 of word b / 64 is that of unknown b. The
 // other words ride along: a constant, many constants at once, or a mark of the equations that a row was made of.
 // What a caller may conclude stands in proofs/, which Lib.antt lists.
+#![tactic(auto)]
+
 ghost use Rattle.std.specs.Prelude.{◌≡◌};
 ghost use Rattle.gf2.specs.Solve.{done, solved};
 ghost use Rattle.gf2.specs.System.{led};
@@ -10,7 +12,7 @@ ghost use Rattle.gf2.specs.System.{led};
 mod sweep;
 
 // What an elimination answers.
-#[derive(Drop)]
+#[derive(Clone, Copy)]
 pub enum Outcome {
     // The lengths and widths do not fit; nothing was changed.
     Misfit,

@@ -3,7 +3,7 @@
 --     common_one, common-zero       the constant that all lanes have in common, as the code reads it
 --     lane_word_lem                     the constants of 64 lanes
 use mathlib.Core.Path.{◌≡◌, refl, sym, ap, ap₂, ◌∙◌}
-use Prim.Native.Nat.{ℕ, ◌+◌, ◌*◌, ◌/◌, ◌%◌, ◌^◌, ◌<◌}
+use Prim.Native.Nat.{ℕ, ◌+◌, ◌*◌, ◌/◌, ◌%◌, ◌<◌}
 use native.Mathlib.Omega.{arith}
 use mathlib.Core.Bool.{Bool, true, false}
 use lib.ListN.{get_or}
@@ -12,7 +12,6 @@ use Rattle.bits.specs.Vectors.{◌⊕◌, bit, pick}
 use Rattle.bits.specs.Words.{has_bit, full}
 use Rattle.bits.specs.Rows.{Row, has_at, has}
 use Rattle.bits.proofs.WordBits.{has_bit_xor, bit-has, zero_bit, full-bit}
-use Rattle.lanes.specs.Lanes.{lane_constant}
 use Rattle.lanes.specs.Inner.{common_word, LaneWord}
 
 module _ (c : ℕ) (x : Row) where

@@ -2,14 +2,13 @@
 --     unsound                       a lane is inconsistent
 --     unique_read, ambiguous_read   none is
 use mathlib.Core.Path.{◌≡◌, refl, sym, ap, ◌∙◌}
-use Prim.Native.Nat.{ℕ, ◌+◌, ◌-◌, ◌*◌, ◌/◌, ◌≤◌, ◌<◌}
+use Prim.Native.Nat.{ℕ, ◌-◌, ◌*◌, ◌/◌, ◌≤◌, ◌<◌}
 use native.Mathlib.Omega.{arith}
 use mathlib.Core.Bool.{false}
 use mathlib.Core.List.{List, [], ◌∷◌, ◌++◌, map, flatten}
 use lib.ListN.{length, drop, length-append, length-map}
 use lib.Dec.{ltb}
 use borrow.Author.Tests.{lt-ltb, le-ltb, eq-eqb, ne_eqb}
-use Rattle.bits.specs.Vectors.{tab}
 use Rattle.bits.specs.Rows.{Row, row, Wide, rows_of}
 use Rattle.bits.proofs.Tests.{length-tab}
 use Rattle.bits.proofs.RowLaws.{length-flatten}

@@ -11,7 +11,7 @@ use Prim.Native.Nat.{ℕ, zero, suc, ◌+◌, ◌-◌, ◌*◌, ◌/◌, ◌%◌
 use native.Mathlib.Omega.{arith}
 use native.Mathlib.Nat.{eq-or-lt_of_le, div-div-eq-div-mul, div-one, pow-suc}
 use mathlib.Core.Bool.{Bool, true, false}
-use mathlib.Core.List.{List, [], ◌∷◌, ◌++◌, map, flatten, append_assoc}
+use mathlib.Core.List.{List, ◌∷◌, ◌++◌, map, flatten, append_assoc}
 use lib.ListN.{length, drop, set, get_or, replicate, length-set, length-replicate}
 use lib.Seq.{drop-drop, get_or-set_same, get_or-set_other}
 use lib.Pow.{pow-add}

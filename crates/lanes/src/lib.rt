@@ -1,6 +1,8 @@
 // What the solver's rows say in 512 lanes at once: the answer, the repaired records and their marks. A row has w words: c of
 // coefficients, the constant that all lanes have in common in bit 0 of the next, then eight words with a bit for each lane, and
 // any that ride along behind. Total: what does not fit together is refused.
+#![tactic(auto)]
+
 ghost use Rattle.std.specs.Prelude.{◌≡◌, ◌+◌, ◌*◌, ◌/◌, ◌≤◌, length};
 ghost use Rattle.bits.specs.Rows.{rows_of};
 ghost use Rattle.gf2.specs.Solve.{sys};

@@ -97,7 +97,7 @@ passes n ks r w u = keeps ks r u && agrees w (polar n u)
 module _ (n : ℕ) (ks : List Rule) (r : ℕ) (w : List ℕ) where
   pub candidates-filter : candidates n ks r w ≡ map (polar n) (filter (passes n ks r w) (all_bits (2 ^ n)))
   unfolding candidates codewords passes
-  candidates-filter = filter_map (polar n) (agrees w) (filter (keeps ks r) (all_bits (2 ^ n))) ∙ rw filter-filter
+  candidates-filter = filter_map (polar n) (agrees w) (filter (keeps ks r) (all_bits (2 ^ n))) ∙ ap (map (polar n)) (filter-filter (λ (u : List Bool). agrees w (polar n u)) (keeps ks r) (all_bits (2 ^ n)))
 
   pub length-candidates : length (candidates n ks r w) ≡ count (passes n ks r w) (all_bits (2 ^ n))
   length-candidates = rw (candidates-filter, length-map, length-filter)

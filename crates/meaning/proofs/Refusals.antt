@@ -15,7 +15,6 @@ use Rattle.bits.specs.Vectors.{pick, all}
 use Rattle.bits.proofs.Tests.{or_false_l, or_false_r, and_l, and_r}
 use Rattle.meaning.specs.Answers.{is_done, Refusal, first_of, refuses, fault, Reply, leaving}
 use Rattle.meaning.specs.declared.Answer.{Answer}
-use Rattle.meaning.specs.declared.Answer.TheVariants.{Done}
 
 module _ {A : Type 0} (f : Answer → A) where
   pub first_append : (a b : List Refusal) (z : A) → first_of f (a ++ b) z ≡ first_of f a (first_of f b z)

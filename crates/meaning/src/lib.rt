@@ -1,8 +1,10 @@
 // What the vault's calls answer, and the numbers that all code is built for. The definitions are in specs/.
+#![tactic(auto)]
+
 pub mod limits;
 
 // An answer: one case for each row of 01's table, `Done`, the 0 of the calls that have no verdict, and the 2 of a strip.
-#[derive(Drop)]
+#[derive(Clone, Copy)]
 pub enum Answer {
     // 0: the call did its work.
     Done,

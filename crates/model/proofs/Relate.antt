@@ -151,7 +151,7 @@ module _ {A B : Type 0} {R : A → B → Type 0} (lim : ℕ) (𝓐 : Values A) (
 
   bound_rest : (g : List Bool) {l : List A} {m : List B} {v : List A} {w : List B} → Along R l m → Along R v w → Along R (rest_of 𝓐 g l v) (rest_of 𝓑 g m w)
   bound_rest g p nil = p
-  bound_rest g p (cons h t) = bound_rest g (bound_shift g p h) t
+  bound_rest g {l = l} {m = m} p (cons {a = a} {b = b} {l = l'} {m = m'} h t) = bound_rest g {l = shift_of 𝓐 g l a} {m = shift_of 𝓑 g m b} (bound_shift g p h) t
 
   pub checks_bound : (r : ℕ) (ks : List Rule) {l : List A} {m : List B} → Along R l m → Along R (checks 𝓐 r ks l) (checks 𝓑 r ks m)
   checks_bound r ks p = bound_rest (poly r) (along_replicate r 𝓐.nought 𝓑.nought 𝓡.nought) (along_append (bound_scaled (leads r) 𝓡.unit) (along_free ks p))

@@ -21,31 +21,31 @@ use Rattle.meaning.proofs.Demands.{decided, by_form, over, under, over_iff}
 use Rattle.planning.specs.MoreKnown.{code_of, g_of, formed}
 use Rattle.planning.proofs.Known.{numbers, formed-none, g_answered}
 
-module _ (n : ℕ) (s : List ℕ) (r c c' : ℕ) (w out : List ℕ) (up : c ≤ c') (limit : c' ≤ largest_ceiling) where
+module _ (n : ℕ) (s : List ℕ) (r c c' : ℕ) (w out : List ℕ) (up : c ≤ c') where
   abbrev g : ℕ
   g = unknowns n (rules n s) w
 
-  same_form : form_refusals n s r c w (length out) ≡ form_refusals n s r c' w (length out)
+  same_form : c' ≤ largest_ceiling → form_refusals n s r c w (length out) ≡ form_refusals n s r c' w (length out)
   unfolding form_refusals
-  same_form = rw (le-ltb largest_ceiling c (omega arith), le-ltb largest_ceiling c' limit)
+  same_form limit = rw (le-ltb largest_ceiling c (omega arith), le-ltb largest_ceiling c' limit)
 
-  pub lowered : (decoding n s r c w out ≡ decoding n s r c' w out) ⊎ ((decoding n s r c w out ≡ leaving out (TooMany g)) × (c < g))
-  lowered = go (refuses (form_refusals n s r c w (length out))) refl
+  pub lowered : c' ≤ largest_ceiling → (decoding n s r c w out ≡ decoding n s r c' w out) ⊎ ((decoding n s r c w out ≡ leaving out (TooMany g)) × (c < g))
+  lowered limit = go (refuses (form_refusals n s r c w (length out))) refl
     where
       go : (b : Bool) → refuses (form_refusals n s r c w (length out)) ≡ b → (decoding n s r c w out ≡ decoding n s r c' w out) ⊎ ((decoding n s r c w out ≡ leaving out (TooMany g)) × (c < g))
       go true e =
-          inl (by_form n s r c w out ∙ first_refused (leaving out) (form_refusals n s r c w (length out)) (decided n s r c w out) (decided n s r c' w out) e ∙ ap (λ (ts : List Refusal). first_of (leaving out) ts (decided n s r c' w out)) same_form
+          inl (by_form n s r c w out ∙ first_refused (leaving out) (form_refusals n s r c w (length out)) (decided n s r c w out) (decided n s r c' w out) e ∙ ap (λ (ts : List Refusal). first_of (leaving out) ts (decided n s r c' w out)) (same_form limit)
           ∙ sym (by_form n s r c' w out))
       go false e =
           ⊎_elim
-          (λ (k : g ≤ c). inl (under n s r c w out e k ∙ sym (under n s r c' w out (rw (← same_form) e) (omega arith))))
+          (λ (k : g ≤ c). inl (under n s r c w out e k ∙ sym (under n s r c' w out (rw (← same_form limit) e) (omega arith))))
           (λ k. inr (over n s r c w out e k, k))
           (le_or_lt g c)
 
-  pub raised : (code_of (numbers (decoding n s r c w out)) ≡ 18 → ⊥) → decoding n s r c' w out ≡ decoding n s r c w out
-  raised h = ⊎_elim sym (λ (e, k). absurd (h (ap (λ (t : Reply). code_of (numbers t)) e))) lowered
+  pub raised : (limit : c' ≤ largest_ceiling) → (code_of (numbers (decoding n s r c w out)) ≡ 18 → ⊥) → decoding n s r c' w out ≡ decoding n s r c w out
+  raised limit h = ⊎_elim sym (λ (e, k). absurd (h (ap (λ (t : Reply). code_of (numbers t)) e))) (lowered limit)
 
-  pub enough : code_of (numbers (decoding n s r c w out)) ≡ 18 → (code_of (numbers (decoding n s r c' w out)) ≡ 18) ↔ (c' < g_of (numbers (decoding n s r c w out)))
-  enough h =
+  pub enough : c' ≤ largest_ceiling → code_of (numbers (decoding n s r c w out)) ≡ 18 → (code_of (numbers (decoding n s r c' w out)) ≡ 18) ↔ (c' < g_of (numbers (decoding n s r c w out)))
+  enough limit h =
       let ok : formed (numbers (decoding n s r c w out)) ≡ true = rw h in
-      rw (g_answered n s r c w out ok) (over_iff n s r c' w out (rw (← same_form) (formed-none n s r c w out ok)))
+      rw (g_answered n s r c w out ok) (over_iff n s r c' w out (rw (← same_form limit) (formed-none n s r c w out ok)))

@@ -4,11 +4,11 @@
 --     balanced        under the ceiling its g and m are bound to the number of erased symbols
 --     more_known      what the second reply keeps of the first, and what it gains, whatever their buffers
 use mathlib.Core.Path.{◌≡◌, refl, sym, ap, ap₂, ◌∙◌}
-use mathlib.Core.Logic.{◌⊎◌, inl, inr, ⊎_elim}
+use mathlib.Core.Logic.{inl, inr, ⊎_elim}
 use Prim.Native.Nat.{ℕ, zero, suc, ◌+◌, ◌*◌, ◌^◌, ◌≤◌, ◌<◌}
 use native.Mathlib.Omega.{arith}
 use mathlib.Core.Bool.{Bool, true, false, not, true≢false}
-use mathlib.Core.List.{List, [], ◌∷◌, ◌++◌, map, Sublistᴰ}
+use mathlib.Core.List.{List, [], ◌∷◌, map, Sublistᴰ}
 use lib.ListN.{length, take, drop, get_or}
 use lib.Dec.{ltb}
 use lib.Pow.{pow-lt, pow-add}

@@ -1,4 +1,6 @@
 // The transform, in place, by halves. It is defined for any bytes; over bytes that are bits it is the transform of 01.
+#![tactic(auto)]
+
 ghost use Rattle.std.specs.Prelude.{◌≡◌, ◌+◌, ◌^◌, length, eqb};
 ghost use Rattle.polar.specs.Bytes.{folded, polar_bytes, transformed};
 

@@ -1,5 +1,7 @@
 // Rows that a position's record asks for: the row of an unknown, and the row that a frozen rule says. A row has w words: c of
 // coefficients, unknown k at bit k mod 64 of word k div 64, then the constant at bit 0 of word c, then words that stay 0.
+#![tactic(auto)]
+
 ghost use Rattle.std.specs.Prelude.{◌≡◌, ℕ, ◌+◌, ◌*◌, ◌<◌, ◌≤◌, length, eqb};
 ghost use Rattle.std.proofs.Math.Seq.{paste};
 ghost use Rattle.bits.specs.Rows.{rows};

@@ -10,7 +10,7 @@ use lib.ListN.{length}
 use Rattle.bits.specs.Vectors.{tab}
 use Rattle.meaning.specs.Limits.{record_bytes}
 use Rattle.meaning.specs.Sheet.{rule_at, rules, frees}
-use Rattle.meaning.specs.Answers.{is_done, first_of, refuses, fault, sheet_refusals, word_refusals, call_refusals, checking, wording}
+use Rattle.meaning.specs.Answers.{is_done, refuses, fault, sheet_refusals, word_refusals, call_refusals, checking, wording}
 use Rattle.meaning.specs.declared.Answer.{Answer}
 use Rattle.meaning.specs.declared.Answer.TheVariants.{Done}
 use Rattle.meaning.proofs.Refusals.{first_append, first_refused, past_none, tried_refused}

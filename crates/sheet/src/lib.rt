@@ -1,5 +1,7 @@
 // The one reader of code sheets: where their bytes lie, the numbers that n and r stand for, the checks of a sheet and of a word that
 // stand before every other call, in 01's order, and the count of a sheet's free positions. Every function here is total.
+#![tactic(auto)]
+
 ghost use Rattle.std.specs.Prelude.{◌≡◌, ◌/◌, length, eqb};
 ghost use Rattle.bits.specs.Vectors.{tab};
 ghost use Rattle.meaning.specs.Limits.{record_bytes};

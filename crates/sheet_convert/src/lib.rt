@@ -1,5 +1,7 @@
 // Old sheets to new ones. Before W-206 a sheet was N records of 20 bytes, N = 1, 2, 4, .. 128; today it is N records of 68. A
 // record is converted by putting zeros behind it, and says the same rule. Every public function here is total.
+#![tactic(auto)]
+
 ghost use Rattle.std.specs.Prelude.{◌≡◌, false, ◌*◌, ◌/◌, ◌^◌, ◌≤◌, ◌<◌, length};
 ghost use Rattle.bits.specs.Vectors.{tab};
 ghost use Rattle.meaning.specs.Limits.{layout, old_layout, record_bytes, old_record_bytes};
@@ -63,7 +65,7 @@ fn hand_out(n: usize, sheet: &[u8], out: &mut [u8]) -> Answer
     if out.len() < sheet.len() {
         return Answer::ShortOutput;
     }
-    bytes::copy(sheet, out);
+    bits::octets::copy(sheet, out);
     Answer::Done
 }
 

@@ -11,6 +11,7 @@ use mathlib.Core.List.{List, [], ◌∷◌, ◌++◌, append_assoc, append-nil}
 use lib.ListN.{length, take, drop, replicate, length-append, length-take, length-drop, length-replicate}
 use lib.Seq.{take_all, drop_at, take-length}
 use borrow.Rule.Slice.PartMut.{put_mid, post_of}
+use Rattle.bits.proofs.Copied.{copied_whole}
 use Rattle.bits.proofs.RowsWritten.{put-behind}
 use Rattle.meaning.specs.Limits.{largest_n, strip_width}
 use Rattle.meaning.specs.Answers.{Reply, leaving, decoding}
@@ -68,17 +69,18 @@ module _ (W : ℕ) (x y z : List ℕ) (lx : length x ≡ W) (ly : length y ≡ W
       put-behind (x ++ y) (replicate W 255) z (2 * W) (3 * W - 2 * W) two-long
       ∙ ap (λ (t : List ℕ). (x ++ y) ++ t) (ap (λ (t : List ℕ). z ++ t) (drop_blank (3 * W - 2 * W) W ∙ ap (λ (k : ℕ). replicate k 255) e) ∙ append-nil z)
 
+-- d with s copied to its start, as far as it has room
+abbrev pub over : List ℕ → List ℕ → List ℕ
+over s d = take (length d) s ++ drop (length s) d
+
 -- a strip: what is copied into blank bytes
-pub strip-is : (src dst x : List ℕ) → dst ≡ replicate strip_width 255 → x ≡ take (length src) src ++ drop (length src) dst → x ≡ padded src
-strip-is src dst x d e =
-    e ∙ ap₂ {C = List ℕ} ◌++◌ (take-length src) (ap (drop (length src)) d ∙ drop_blank (length src) strip_width)
+pub strip-is : (src dst x : List ℕ) → length src ≤ strip_width → dst ≡ replicate strip_width 255 → x ≡ over src dst → x ≡ padded src
+strip-is src dst x h d e =
+    let room : length src ≤ length dst = omega (arith, ap length d, length-replicate {A = ℕ} strip_width 255) in
+    copied_whole src dst x room e ∙ ap₂ {C = List ℕ} ◌++◌ (take-length src) (ap (drop (length src)) d ∙ drop_blank (length src) strip_width)
 
 pub padded-long : (l : List ℕ) → length l ≤ strip_width → length (padded l) ≡ strip_width
 padded-long l h = length-append l _ ∙ ap (λ (k : ℕ). length l + k) (length-replicate (strip_width - length l) 255) ∙ omega arith
-
--- d with s copied to its start
-abbrev pub over : List ℕ → List ℕ → List ℕ
-over s d = take (length s) s ++ drop (length s) d
 
 module _ (size : ℕ) (b S : List ℕ) (lb : length b ≡ 3 * size) (low : size ≤ strip_width) (eS : S ≡ replicate (3 * strip_width) 255) where
   abbrev W : ℕ
@@ -99,15 +101,15 @@ module _ (size : ℕ) (b S : List ℕ) (lb : length b ≡ 3 * size) (low : size 
       let l₂ : length (take size (drop size b)) ≤ W = simp length-take (omega arith) in
       let l₃ : length (drop (2 * size) b) ≤ W = simp length-drop (omega arith) in
       let d₁ : take (W - 0) (drop 0 S) ≡ replicate W 255 = ap (take (W - 0)) eS ∙ ap (λ (k : ℕ). take k (replicate (3 * W) 255)) (let e : W - 0 ≡ W = omega arith in e) ∙ take_blank W (3 * W) (omega arith) in
-      let x' : x ≡ padded (take size b) = strip-is (take (size - 0) (drop 0 b)) _ x d₁ ex ∙ ap padded s₁ in
+      let x' : x ≡ padded (take size b) = strip-is (take (size - 0) (drop 0 b)) _ x (omega (arith, ap length s₁, l₁)) d₁ ex ∙ ap padded s₁ in
       let lx : length x ≡ W = ap length x' ∙ padded-long (take size b) l₁ in
       let one : x ++ post_of 0 (W - 0) S ≡ x ++ replicate (2 * W) 255 = ap (λ (t : List ℕ). x ++ post_of 0 (W - 0) t) eS ∙ laid_one W x x x lx lx lx in
       let d₂ : take (2 * W - W) (drop W (x ++ post_of 0 (W - 0) S)) ≡ replicate W 255 = ap (λ (t : List ℕ). take (2 * W - W) (drop W t)) one ∙ part-two W x x x lx lx lx in
-      let y' : y ≡ padded (take size (drop size b)) = strip-is (take (2 * size - size) (drop size b)) _ y d₂ ey ∙ ap padded s₂ in
+      let y' : y ≡ padded (take size (drop size b)) = strip-is (take (2 * size - size) (drop size b)) _ y (omega (arith, ap length s₂, l₂)) d₂ ey ∙ ap padded s₂ in
       let ly : length y ≡ W = ap length y' ∙ padded-long (take size (drop size b)) l₂ in
       let two : put_mid W (2 * W - W) (x ++ post_of 0 (W - 0) S) y ≡ (x ++ y) ++ replicate W 255 = ap (λ (t : List ℕ). put_mid W (2 * W - W) t y) one ∙ laid-two W x y y lx ly ly in
       let d₃ : take (3 * W - 2 * W) (drop (2 * W) (put_mid W (2 * W - W) (x ++ post_of 0 (W - 0) S) y)) ≡ replicate W 255 = ap (λ (t : List ℕ). take (3 * W - 2 * W) (drop (2 * W) t)) two ∙ part-three W x y y lx ly ly in
-      let z' : z ≡ padded (drop (2 * size) b) = strip-is (take (3 * size - 2 * size) (drop (2 * size) b)) _ z d₃ ez ∙ ap padded s₃ in
+      let z' : z ≡ padded (drop (2 * size) b) = strip-is (take (3 * size - 2 * size) (drop (2 * size) b)) _ z (omega (arith, ap length s₃, l₃)) d₃ ez ∙ ap padded s₃ in
       let lz : length z ≡ W = ap length z' ∙ padded-long (drop (2 * size) b) l₃ in
       ap (λ (t : List ℕ). put_mid (2 * W) (3 * W - 2 * W) t z) two ∙ laid-all W x y z lx ly lz ∙ ap₂ {C = List ℕ} ◌++◌ (ap₂ {C = List ℕ} ◌++◌ x' y') z'
 

@@ -1,5 +1,7 @@
 // The answers to a whole input: one record of 1,552 bytes for each word, in its place. Every function here is total, and over
 // values: the bytes of sheet.bin, of choice.bin (r, then the ceiling) and of the words end to end.
+#![tactic(auto)]
+
 ghost use Rattle.std.specs.Prelude.{◌≡◌, ℕ, ◌*◌, ◌^◌, ◌≤◌, length, drop};
 ghost use mathlib.Core.List.{◌++◌, flatten};
 ghost use Rattle.bits.specs.Vectors.{tab};

@@ -18,12 +18,12 @@ fn lay(found: &[u8], size: usize, strips: &mut [u8])
     requires { (length found.now ≡ 3 * size) × (size ≤ strip_width) × (strips.old ≡ replicate (3 * strip_width) 255) }
     ensures { strips.new ≡ laid size found.now }
 {
-    bytes::copy(&found[0..size], &mut strips[0..limits::WIDTH]);
-    bytes::copy(
+    bits::octets::copy(&found[0..size], &mut strips[0..limits::WIDTH]);
+    bits::octets::copy(
         &found[size..2 * size],
         &mut strips[limits::WIDTH..2 * limits::WIDTH],
     );
-    bytes::copy(
+    bits::octets::copy(
         &found[2 * size..3 * size],
         &mut strips[2 * limits::WIDTH..3 * limits::WIDTH],
     );
@@ -34,8 +34,8 @@ fn put(a: Answer, strips: &[u8], out: &mut [u8])
     requires { (length strips.now ≡ 3 * strip_width) × (length out.old ≡ answer_bytes) }
     ensures { out.new ≡ header a ++ strips.now }
 {
-    bytes::copy(&answers::header(a), out);
-    bytes::copy(strips, &mut out[limits::HEAD..]);
+    bits::octets::copy(&answers::header(a), out);
+    bits::octets::copy(strips, &mut out[limits::HEAD..]);
 }
 
 // Writes the record of an answer that left its output untouched.

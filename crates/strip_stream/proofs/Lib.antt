@@ -4,3 +4,4 @@
 pub mod Cases
 pub mod Writing
 pub mod Promise
+pub mod Turns

@@ -1,6 +1,8 @@
 // The repair of whole strips end to end: one part of 65N bytes and one record of 16 bytes for each strip, in their places. Every
 // public function is total, and over values: the bytes of sheet.bin, of choice.bin (r, then the ceiling), the marks of lost
 // records, and the strips of 64N bytes end to end.
+#![tactic(auto)]
+
 ghost use Rattle.std.specs.Prelude.{◌≡◌, ℕ, suc, ◌*◌, ◌≤◌, length, drop, replicate, ltb};
 ghost use mathlib.Core.List.{◌++◌, flatten};
 ghost use Rattle.bits.specs.Vectors.{tab};
@@ -86,7 +88,7 @@ fn put(a: Answer, records: &mut [u8])
     requires { head_bytes ≤ length records.old }
     ensures { records.new ≡ header a ++ drop head_bytes records.old }
 {
-    bytes::copy(&answers::header(a), records);
+    bits::octets::copy(&answers::header(a), records);
 }
 
 // Answers one strip, in the room of its part and its record.

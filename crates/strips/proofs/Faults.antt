@@ -11,18 +11,18 @@ use mathlib.Core.Path.{◌≡◌, refl, sym, ap, ap₂, ◌∙◌}
 use mathlib.Core.Logic.{⊎_elim}
 use Prim.Native.Nat.{ℕ, zero, suc, ◌+◌, ◌*◌, ◌/◌, ◌^◌, ◌≤◌, ◌<◌}
 use native.Mathlib.Omega.{arith}
-use mathlib.Core.Bool.{Bool, true, false, not, ◌||◌}
+use mathlib.Core.Bool.{Bool, true, false, not}
 use mathlib.Core.List.{List, [], ◌∷◌, ◌++◌, map, append_assoc}
 use lib.ListN.{length, get_or, replicate, length-map, length-replicate}
 use lib.Dec.{ltb, eqb}
-use borrow.Author.Tests.{lt-ltb, le-ltb, eq-eqb, ne_eqb, ltb-false, eqb-true, not-true, not-false}
+use borrow.Author.Tests.{lt-ltb, le-ltb, eq-eqb, ne_eqb, ltb-false, eqb-true, not-false}
 use Rattle.bits.specs.Vectors.{pick, tab, ones, first_place}
 use Rattle.bits.proofs.Tests.{or_false_l, or_false_r, length-tab, tab-at, not-both, place_le, place_passes, le_or_lt}
-use Rattle.meaning.specs.Limits.{largest_n, mask_bytes, record_bytes, largest_ceiling}
-use Rattle.meaning.specs.Sheet.{Rule, rules}
+use Rattle.meaning.specs.Limits.{mask_bytes, record_bytes, largest_ceiling}
+use Rattle.meaning.specs.Sheet.{rules}
 use Rattle.meaning.specs.Codewords.{erased, candidates}
 use Rattle.meaning.specs.Open.{is_open, open_all, open_free, closed_frozen, unknowns, equations}
-use Rattle.meaning.specs.Answers.{Refusal, ◌⇒◌, first_of, fault, is_done, checking, wording, refuses, sheet_refusals, word_refusals, form_refusals, Reply, leaving, verdict, decoding}
+use Rattle.meaning.specs.Answers.{Refusal, ◌⇒◌, first_of, fault, is_done, checking, wording, refuses, sheet_refusals, word_refusals, form_refusals, Reply, leaving, verdict}
 use Rattle.meaning.specs.declared.Answer.{Answer}
 use Rattle.meaning.specs.declared.Answer.TheVariants.{Done, BadLength, BadCeiling, TooMany}
 use Rattle.meaning.proofs.Refusals.{tried_done, tried_refused, past_none, none_append}

@@ -13,7 +13,7 @@ use lib.Dec.{eqb, ltb}
 use borrow.Author.Tests.{ltb-true, ltb-false, not-true, not-false}
 use Rattle.bits.specs.Vectors.{◌⊕◌, bit, pick, tab}
 use Rattle.bits.specs.Words.{has_bit}
-use Rattle.bits.specs.Rows.{Row, row, has_at, has, at}
+use Rattle.bits.specs.Rows.{Row, row, has, at}
 use Rattle.bits.proofs.Tests.{length-tab, tab-at, tab_below, place-first, place_passes, get_or_map}
 use Rattle.bits.proofs.Xor.{⊕-swap}
 use Rattle.bits.proofs.WordBits.{bit-has, zero_bit}

@@ -8,7 +8,7 @@
 --     first_lane            2 names the first lane that `decode` calls inconsistent
 --     whole_unmarked        0 exactly where no record is marked
 --     read_kept             a record that was read is written as it is
-use mathlib.Core.Path.{◌≡◌, refl, sym, ap, ap₂, ◌∙◌, subst}
+use mathlib.Core.Path.{◌≡◌, refl, sym, ap, ap₂, ◌∙◌}
 use mathlib.Core.Logic.{◌↔◌, ⊎_elim}
 use Prim.Native.Nat.{ℕ, zero, suc, ◌+◌, ◌*◌, ◌/◌, ◌%◌, ◌^◌, ◌≤◌, ◌<◌}
 use native.Mathlib.Omega.{arith}
@@ -17,7 +17,7 @@ use mathlib.Core.List.{List, [], ◌∷◌, ◌++◌, flatten, append_assoc, Mem
 use lib.ListN.{length, drop, get_or, replicate, length-replicate, get_or-append}
 use lib.Seq.{get_or-append-add}
 use lib.Dec.{eqb, ltb}
-use borrow.Author.Tests.{lt-ltb, le-ltb, ltb-true, ltb-false, eq-eqb, ne_eqb, eqb-true}
+use borrow.Author.Tests.{lt-ltb, le-ltb, eq-eqb, ne_eqb, eqb-true}
 use Rattle.bits.specs.Vectors.{bit, pick, tab}
 use Rattle.bits.specs.Words.{bit_at}
 use Rattle.bits.specs.Rows.{row, rows, Wide}

@@ -13,12 +13,12 @@ use mathlib.Core.Bool.{true}
 use mathlib.Core.List.{List}
 use lib.ListN.{length, take, length-take}
 use lib.Pow.{pow_mono}
-use borrow.Author.Tests.{eq-eqb, le-leb, lt-ltb, le-ltb}
+use borrow.Author.Tests.{lt-ltb, le-ltb}
 use Rattle.bits.specs.Rows.{Row, row}
 use Rattle.gf2.specs.Solve.{Sys, solve}
-use Rattle.meaning.specs.Limits.{largest_n, record_bytes, largest_ceiling}
+use Rattle.meaning.specs.Limits.{largest_n, largest_ceiling}
 use Rattle.meaning.specs.Sheet.{rule_at, rules}
-use Rattle.meaning.specs.Open.{unknowns, equations}
+use Rattle.meaning.specs.Open.{unknowns}
 use Rattle.meaning.specs.Answers.{Reply, leaving}
 use Rattle.meaning.specs.declared.Answer.TheVariants.{TooMany}
 use Rattle.model.specs.RowValues.{rows_out, rows_system}

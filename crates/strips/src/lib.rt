@@ -1,5 +1,7 @@
 // Whole strips: N records of 64 bytes end to end, some of them lost. All 512 lanes are repaired at once, lane t being bit
 // t mod 8 of byte t div 8 of each record. What depends on the losses alone is done once.
+#![tactic(auto)]
+
 ghost use Rattle.std.specs.Prelude.{◌≡◌, length};
 ghost use Rattle.meaning.specs.Answers.{fault, reply};
 ghost use Rattle.strips.specs.Repairing.{repair_form, repairing};

@@ -22,7 +22,6 @@ use Rattle.gf2.specs.declared.Outcome.{Outcome}
 use Rattle.gf2.specs.declared.Outcome.TheVariants.{Misfit, Rank}
 use Rattle.gf2.proofs.Calls.{all_fit, Left, left}
 use Rattle.verdict.proofs.Fitting.{nothing-over}
-use Rattle.meaning.specs.Limits.{largest_n, record_bytes}
 use Rattle.descent.specs.Descending.{widest}
 use Rattle.sheet.proofs.Shapes.{recorded_when}
 use Rattle.checks.specs.Checking.{spaced, check_fits, checked, check_of, checking}

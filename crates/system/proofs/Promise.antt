@@ -10,13 +10,13 @@ use Prim.Native.Nat.{ℕ, zero, suc, ◌+◌, ◌-◌, ◌*◌, ◌^◌, ◌≤�
 use native.Mathlib.Omega.{arith}
 use native.Mathlib.Nat.{add-mul, mul-le-mul_right}
 use mathlib.Core.Bool.{Bool, true, false, ◌&&◌, not}
-use mathlib.Core.List.{List, [], ◌∷◌, ◌++◌, flatten}
+use mathlib.Core.List.{List, ◌++◌, flatten}
 use lib.ListN.{length, take, drop, replicate, length-append}
 use lib.Seq.{take_at, drop_at, drop-drop, length-take-le}
 use lib.Dec.{ltb}
 use borrow.Author.Tests.{lt-ltb, le-ltb, ltb-true, ltb-false, not-true, not-false, eq-eqb, le-leb}
 use Rattle.bits.specs.Vectors.{pick, tab}
-use Rattle.bits.specs.Rows.{Row, row, rows, Wide, rows_of}
+use Rattle.bits.specs.Rows.{Row, row, rows, rows_of}
 use Rattle.bits.proofs.Tests.{and_i}
 use Rattle.bits.proofs.RowLaws.{row_fit, length_part, flatten-rows, length-flatten, rows-flatten}
 use Rattle.gf2.specs.Solve.{lead, Sys, sys, solve}

@@ -1,5 +1,7 @@
 // Descent, check and solver behind one promise, on rows of any width: what the losses and the known symbols' rows make of a
 // word. Every engine stands on it.
+#![tactic(auto)]
+
 ghost use Rattle.std.specs.Prelude.{◌≡◌};
 ghost use Rattle.system.specs.Solving.{leaves, solving, Settling, settled};
 
@@ -13,7 +15,7 @@ pub const LONGEST_CHECK: usize = 11;
 
 // What is asked: N = 2 to the n symbols, a check of length r, at most `most` unknowns, and rows of `words` words, the first
 // `coeffs` of them coefficients.
-#[derive(Drop)]
+#[derive(Clone, Copy)]
 pub struct Terms {
     pub n: usize,
     pub r: usize,
@@ -23,7 +25,7 @@ pub struct Terms {
 }
 
 // How a call ended.
-#[derive(Drop)]
+#[derive(Clone, Copy)]
 pub enum System {
     // What was handed over does not fit together. Nothing was changed.
     Misfit,

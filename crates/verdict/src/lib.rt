@@ -1,5 +1,7 @@
 // The verdict, read off the rows that the solver leaves: the answer and the strips. A row has w words: c of coefficients, the
 // constant in bit 0 of the next, and any that ride along behind. Total: what does not fit together is refused.
+#![tactic(auto)]
+
 ghost use Rattle.std.specs.Prelude.{◌≡◌, ◌*◌, ◌/◌, ◌≤◌, ◌<◌, ◌++◌, length, drop};
 ghost use Rattle.bits.specs.Rows.{rows_of};
 ghost use Rattle.gf2.specs.Solve.{sys};

@@ -45,7 +45,7 @@ module _ (strip : Bor (List ℕ)) (n at : ℕ) where
   unfolding record_of place_of
   view_there h k e =
       let s : k + cartridge_bytes - k ≡ cartridge_bytes = omega arith in
-      (rw (h, s, e) refl, rw h (ap {B = ℕ × ℕ} (λ (o : ℕ). (strip.ptr.0, o)) (omega arith)))
+      (rw (h, s, e) refl, rw h (ap {B = ℕ × ℕ} (λ (o : ℕ). (strip.ref_ptr.0, o)) (omega arith)))
 
 pub strip-fits : (n : ℕ) → n ≤ largest_n → 2 ^ n * cartridge_bytes ≤ 32768
 unfolding largest_n cartridge_bytes

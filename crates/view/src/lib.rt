@@ -1,6 +1,7 @@
 // A view of one cartridge's record within a lent strip: N = 2 to the n records of 64 bytes end to end. `record` takes the
-// strip as a plain slice, and any caller can use it. `Lent` holds the strip; the borrow checker covers no function over such
-// a struct, so the two here are thin and proved by hand.
+// strip as a plain slice, and any caller can use it. `Lent` holds the strip, for views of its cartridges.
+#![tactic(auto)]
+
 ghost use Rattle.std.specs.Prelude.{◌≡◌, ◌^◌, ◌≤◌};
 ghost use Rattle.meaning.specs.Limits.{largest_n};
 ghost use Rattle.view.specs.Viewing.{record_of, place_of};
@@ -39,7 +40,7 @@ pub fn record<'a>(strip: &'a [u8], n: usize, at: usize) -> &'a [u8]
 }
 
 // A lent strip of 2 to the n records.
-#[derive(Drop)]
+#[derive(Clone, Copy)]
 pub struct Lent<'a> {
     pub strip: &'a [u8],
     pub n: usize,

@@ -1,0 +1,4 @@
+use Rattle.descent.proofs.block.+decode.Given as goal
+
+abbrev pub decreases-decode : goal.decreases-decode
+decreases-decode l = l.k

@@ -1,0 +1,5 @@
+use Rattle.lanes.proofs.Collecting.{add_next}
+use Rattle.lanes.proofs.bad.add.Goals as goal
+
+pub loop-k-preserved : goal.loop-k-preserved
+loop-k-preserved c = add_next c.loop-k.invariant c.requires.0 c.loop-k-test.true _ c.word.ensures

@@ -1,0 +1,4 @@
+use Rattle.polar.proofs.+steps.Given as goal
+
+abbrev pub decreases-steps : goal.decreases-steps
+decreases-steps l = l.n

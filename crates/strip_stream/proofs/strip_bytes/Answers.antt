@@ -1,0 +1,13 @@
+use lib.Pow.{pow_mono}
+use Rattle.meaning.specs.Limits.{largest_n}
+use Rattle.strip_stream.specs.Strips.{strip_bytes}
+use native.Mathlib.Omega.{arith}
+use Rattle.strip_stream.proofs.strip_bytes.Goals as goal
+
+pub overflow_shl-result : goal.overflow_shl-result
+unfolding largest_n
+overflow_shl-result c = omega arith
+
+pub returns : goal.returns
+unfolding largest_n strip_bytes
+returns c = omega (arith, pow_mono {i = c.args.n} {j = 10} (omega arith))
