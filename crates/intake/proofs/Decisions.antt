@@ -1,11 +1,9 @@
 -- Tests of signed numbers, as the code makes them on their bits, and that reading ends.
-use mathlib.Core.Path.{◌≡◌, refl, sym, ap, ◌∙◌}
-use Prim.Native.Nat.{ℕ, zero, suc, ◌+◌, ◌-◌, ◌≤◌, ◌<◌, zero-le}
+use mathlib.Core.Path.{◌≡◌, refl, ap, ◌∙◌}
+use Prim.Native.Nat.{ℕ, ◌+◌, ◌-◌, ◌≤◌, zero-le}
 use native.Mathlib.Omega.{arith}
 use mathlib.Core.Bool.{Bool, true, false}
-use mathlib.Core.List.{List}
 use lib.Dec.{eqb}
-use lib.ListN.{length, take, drop, length-take, length-drop}
 use lib.IntN.{ℤ, pos, negsuc}
 use lib.Signed.{le_z, lt_z}
 use mir.Syntax.{w32, w64}
@@ -13,7 +11,6 @@ use mir.Val.{SFits, of_z, to_z}
 use mir.ValLaws.{to_z-of_z}
 use borrow.Author.Tests.{le-leb, ne_eqb}
 use Rattle.bits.specs.Vectors.{pick}
-use Rattle.io.specs.Counts.{clamp_len}
 use Rattle.intake.specs.Decisions.{is_opened, is_moving, is_none, counted}
 
 at_least_0 : (z : ℤ) → le_z (pos 0) z ≡ is_opened z
@@ -39,21 +36,6 @@ moving_is (negsuc k) = refl
 -- what is left to do: the room beyond n bytes, and one more read where the last one answered more than 0
 abbrev pub to_read : ℕ → ℕ → ℤ → ℕ
 to_read room n last = room - n + pick (is_moving last) 1 0
-
-one_at_most : (b : Bool) → pick b 1 0 ≤ 1
-one_at_most true = omega arith
-one_at_most false = omega arith
-
--- a read answers z and puts k bytes into the `left` that are left of the room
-less_left : (room n k left : ℕ) (z : ℤ) → n < room → left ≡ room - n → k ≡ clamp_len z left → to_read room (n + k) z < room - n + 1
-less_left room n k left (pos zero) l el ek = omega (arith, l, ek, el)
-less_left room n k left (pos (suc j)) l el ek = omega (arith, l, ek, el, one_at_most (is_moving (pos (suc j))))
-less_left room n k left (negsuc j) l el ek = omega (arith, l, ek, el)
-
--- after it less is left to do: `after` is the room with those bytes, and its part from n on was lent
-pub read_less : (room n k : ℕ) (after : List ℕ) (last z : ℤ) → lt_z (pos 0) last ≡ true → n < room → length after ≡ room → k ≡ clamp_len z (length (take (length after - n) (drop n after)))
-    → to_read (length after) (n + k) z < to_read room n last
-read_less room n k after last z t l e ek = rw (e, sym (moving_is last) ∙ t) (less_left room n k _ z l (simp (length-take, length-drop) (omega (arith, e))) ek)
 
 -- no more bytes count than were read
 pub counted_least : (whole : Bool) (n m k : ℕ) → k ≡ counted whole n → n ≤ m → k ≤ m

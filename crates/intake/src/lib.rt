@@ -1,7 +1,15 @@
 // How a program reads, and what it decides by what the system answered. Nothing says which bytes the system moves; what is done
 // with its answers is promised here.
-ghost use Rattle.std.specs.Prelude.{◌≡◌, ◌≤◌, length, take};
+#![tactic(auto)]
+
+ghost use Rattle.std.specs.Prelude.{◌≡◌, ◌-◌, ◌≤◌, length, take, IfOk};
 ghost use Rattle.intake.specs.Decisions.{is_opened, Stopped, is_whole, counted, goes_on};
+
+mod streams;
+
+use std::io;
+use std::io::Read;
+pub use streams::Streams;
 
 // Whether a file is open, by the number that opening it answered.
 pub fn opened(fd: i32) -> bool
@@ -10,34 +18,45 @@ pub fn opened(fd: i32) -> bool
     fd >= 0
 }
 
-// How many bytes were read, and what the last read answered.
-#[derive(Drop)]
+// How many bytes were read, and what the last read answered: how many bytes, or -1 where it failed, and then why.
+#[derive(Clone, Copy)]
 pub struct Got {
     pub n: usize,
     pub last: isize,
+    pub why: Option<io::Error>,
 }
 
 // Makes one read into buf behind its first n bytes, which stay as they are, and answers what it answered.
-fn read_behind(fd: i32, n: usize, buf: &mut [u8]) -> isize
+fn read_behind<R: Read>(from: &mut R, n: usize, buf: &mut [u8]) -> io::Result<usize>
     requires { n ≤ length buf.old }
-    ensures { take n buf.new ≡ take n buf.old }
+    ensures kept { take n buf.new ≡ take n buf.old }
+    ensures room { IfOk result (λ k. k ≤ length buf.new - n) }
 {
-    libc::read(fd, &mut buf[n..])
+    from.read(&mut buf[n..])
 }
 
 // Reads into buf until it is full, or a read answers 0, the end, or less, a failure. After such an answer it reads no more,
 // since the system may report a failure only once.
-pub fn read(fd: i32, buf: &mut [u8]) -> Got
+pub fn read<R: Read>(from: &mut R, buf: &mut [u8]) -> Got
     ensures n_in_bounds { result.n ≤ length buf.new }
     ensures stopped { Stopped result.n (length buf.new) result.last }
 {
     let mut n = 0;
     let mut last = 1isize;
+    let mut why = None;
     while last > 0 && n < buf.len() {
-        last = read_behind(fd, n, buf);
-        n += io::count(last, &buf[n..]);
+        match read_behind(from, n, buf) {
+            Ok(k) => {
+                last = k as isize;
+                n += k;
+            }
+            Err(e) => {
+                last = -1;
+                why = Some(e);
+            }
+        }
     }
-    Got { n, last }
+    Got { n, last, why }
 }
 
 // Whether the n bytes read into a room are all that there is to read, or all that it holds; `last` is what the last read
@@ -64,19 +83,21 @@ pub fn goes_on(written: bool, got: usize, len: usize) -> bool
 
 // Reads a file into buf, as far as it has room, and answers how many bytes. Where it cannot be opened or read to its end, says
 // why on standard error, behind `label`, and answers 0.
-pub fn load(path: &[u8], label: &[u8], buf: &mut [u8]) -> usize
+pub fn load(streams: &Streams, path: &[u8], label: &[u8], buf: &mut [u8]) -> usize
     ensures { result ≤ length buf.new }
 {
-    let fd = os::open_read(path);
-    if !opened(fd) {
-        os::fail(label);
-        return 0;
+    match streams.open(path) {
+        Ok(mut file) => {
+            let got = read(&mut file, buf);
+            let all = whole(got.n, buf.len(), got.last);
+            if !all {
+                streams.fail(label, got.why);
+            }
+            counted(all, got.n)
+        }
+        Err(why) => {
+            streams.fail(label, Some(why));
+            0
+        }
     }
-    let got = read(fd, buf);
-    let all = whole(got.n, buf.len(), got.last);
-    if !all {
-        os::fail(label);
-    }
-    libc::close(fd);
-    counted(all, got.n)
 }

@@ -2,26 +2,28 @@
 ghost use Rattle.std.specs.Prelude.{◌*◌, ◌^◌, ◌≤◌, ◌<◌, length};
 ghost use Rattle.meaning.specs.Limits.{largest_n, record_bytes};
 
+use intake::Streams;
+
 // Reads sheet.bin. There is room for more than the longest sheet, so that a longer file is seen.
-pub fn load_sheet(buf: &mut [u8]) -> usize
+pub fn load_sheet(streams: &Streams, buf: &mut [u8]) -> usize
     requires { record_bytes * 2 ^ largest_n < length buf.old }
     ensures { result ≤ length buf.new }
 {
-    intake::load(b"sheet.bin", b"repair: sheet.bin", buf)
+    intake::load(streams, b"sheet.bin", b"repair: sheet.bin", buf)
 }
 
 // Reads choice.bin, likewise.
-pub fn load_choice(buf: &mut [u8]) -> usize
+pub fn load_choice(streams: &Streams, buf: &mut [u8]) -> usize
     requires { 2 < length buf.old }
     ensures { result ≤ length buf.new }
 {
-    intake::load(b"choice.bin", b"repair: choice.bin", buf)
+    intake::load(streams, b"choice.bin", b"repair: choice.bin", buf)
 }
 
 // Reads the marks, likewise.
-pub fn load_marks(path: &[u8], buf: &mut [u8]) -> usize
+pub fn load_marks(streams: &Streams, path: &[u8], buf: &mut [u8]) -> usize
     requires { 2 ^ largest_n < length buf.old }
     ensures { result ≤ length buf.new }
 {
-    intake::load(path, b"repair: the marks", buf)
+    intake::load(streams, path, b"repair: the marks", buf)
 }

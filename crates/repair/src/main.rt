@@ -5,6 +5,8 @@
 // theorem (proofs/Joined, `runs-joined`; strip_stream/proofs/Promise, `Cut-all`).
 // What cannot be read or written, and a file of wrong length, is said on standard error; else nothing is. Where the file of the
 // records cannot be opened, nothing is read or written.
+#![tactic(auto)]
+
 ghost use Rattle.std.specs.Prelude.{◌≡◌, ◌*◌, ◌≤◌, [], length, take};
 ghost use Rattle.meaning.specs.Limits.{largest_n, head_bytes};
 ghost use Rattle.strip_stream.specs.Strips.{strip_bytes, part_bytes, record_count, part_count};
@@ -13,8 +15,12 @@ ghost use Rattle.repair.specs.Runs.{run_strips, Room, Ready, Filled};
 
 mod files;
 
-use libc::{PATH_MAX, STDERR_FILENO, STDIN_FILENO, STDOUT_FILENO};
+use intake::Streams;
 use meaning::limits;
+use std::fs::File;
+use std::io::Write;
+use std::process::ExitCode;
+use std::rt::Env;
 
 // One byte more than the longest sheet, so that a longer file is seen.
 const SHEET: usize = limits::RECORD * limits::POSITIONS + 1;
@@ -40,23 +46,26 @@ const REPAIRED: usize = RUN * 65 * limits::POSITIONS;
 // The bytes of the records of a run.
 const RECORDS: usize = RUN * limits::HEAD;
 
+// Room for the name of a file.
+const PATH: usize = 4096;
+
 // How many turns were made, and whether there was more to come.
-#[derive(Drop)]
+#[derive(Clone, Copy)]
 struct Progress {
     made: u64,
     more: bool,
 }
 
 // How many bytes of each buffer are to be written.
-#[derive(Drop)]
+#[derive(Clone, Copy)]
 struct Sizes {
     repaired: usize,
     records: usize,
 }
 
 // Says s on standard error.
-fn say(s: &[u8]) {
-    io::write_all(STDERR_FILENO, s);
+fn say(streams: &Streams, s: &[u8]) {
+    streams.say(s);
 }
 
 // Fills in the parts and records of the first `got` bytes of the input, and answers how many bytes they are.
@@ -82,18 +91,15 @@ fn fill(
 }
 
 // Writes s to a file, or says behind `label` that it cannot; answers whether it could.
-fn write(fd: i32, s: &[u8], label: &[u8]) -> bool {
-    let written = io::write_all(fd, s);
-    if !written {
-        os::fail(label);
-    }
-    written
+fn write<W: Write>(streams: &Streams, to: &mut W, s: &[u8], label: &[u8]) -> bool {
+    streams.write(to, s, label)
 }
 
-// Answers the first `got` bytes of the input, writes their parts to standard output and their records to fd; answers whether
+// Answers the first `got` bytes of the input, writes their parts to standard output and their records to `file`; answers whether
 // it could.
 fn answer(
-    fd: i32,
+    streams: &Streams,
+    file: &mut File,
     sheet: &[u8],
     choice: &[u8],
     lost: &[u8],
@@ -108,17 +114,24 @@ fn answer(
     let p = k.repaired;
     let r = k.records;
     let first = write(
-        STDOUT_FILENO,
+        streams,
+        &mut streams.output(),
         &repaired[0..p],
         b"repair: standard output, strips are missing",
     );
-    let second = write(fd, &records[0..r], b"repair: the records, some are missing");
+    let second = write(
+        streams,
+        file,
+        &records[0..r],
+        b"repair: the records, some are missing",
+    );
     first && second
 }
 
 // Reads a run of strips, answers it and answers whether to go on. A read that fails ends the input, and is said.
 fn turn(
-    fd: i32,
+    streams: &Streams,
+    file: &mut File,
     sheet: &[u8],
     choice: &[u8],
     lost: &[u8],
@@ -128,10 +141,15 @@ fn turn(
 ) -> bool
     requires { Ready sheet.now choice.now (length input.old) (length repaired.old) (length records.old) }
 {
-    let got = intake::read(STDIN_FILENO, input);
-    let written = answer(fd, sheet, choice, lost, input, got.n, repaired, records);
+    let got = streams.read(input);
+    let written = answer(
+        streams, file, sheet, choice, lost, input, got.n, repaired, records,
+    );
     if written && !intake::whole(got.n, input.len(), got.last) {
-        os::fail(b"repair: standard input, the strips after this point are not answered");
+        streams.fail(
+            b"repair: standard input, the strips after this point are not answered",
+            got.why,
+        );
     }
     intake::goes_on(written, got.n, input.len())
 }
@@ -139,7 +157,8 @@ fn turn(
 // Answers runs until one is the last. They are counted, since a proved loop has to end and nothing says that the input does;
 // no run of the program counts so many.
 fn turns(
-    fd: i32,
+    streams: &Streams,
+    file: &mut File,
     sheet: &[u8],
     choice: &[u8],
     lost: &[u8],
@@ -153,7 +172,7 @@ fn turns(
     let mut made = 0u64;
     let mut more = true;
     while more && made < u64::MAX {
-        more = turn(fd, sheet, choice, lost, input, repaired, records);
+        more = turn(streams, file, sheet, choice, lost, input, repaired, records);
         made += 1;
     }
     Progress { made, more }
@@ -161,7 +180,8 @@ fn turns(
 
 // Answers all runs.
 fn run(
-    fd: i32,
+    streams: &Streams,
+    file: &mut File,
     sheet: &[u8],
     choice: &[u8],
     lost: &[u8],
@@ -171,16 +191,17 @@ fn run(
 )
     requires { Ready sheet.now choice.now (length input.old) (length repaired.old) (length records.old) }
 {
-    let t = turns(fd, sheet, choice, lost, input, repaired, records);
+    let t = turns(streams, file, sheet, choice, lost, input, repaired, records);
     if t.more {
-        say(b"repair: too many strips\n");
+        say(streams, b"repair: too many strips\n");
     }
 }
 
 // Says why no strip is read, and writes the one record that there is without a strip.
 fn refuse(
+    streams: &Streams,
     why: &[u8],
-    fd: i32,
+    file: &mut File,
     sheet: &[u8],
     choice: &[u8],
     lost: &[u8],
@@ -190,13 +211,16 @@ fn refuse(
 )
     requires { (record_count sheet.now choice.now [] ≡ 1) × (part_count sheet.now choice.now [] ≡ 0) × (head_bytes ≤ length records.old) }
 {
-    say(why);
-    answer(fd, sheet, choice, lost, input, 0, repaired, records);
+    say(streams, why);
+    answer(
+        streams, file, sheet, choice, lost, input, 0, repaired, records,
+    );
 }
 
 // Answers the strips on standard input; where the sheet or the choice has a wrong length, reads none.
 fn serve(
-    fd: i32,
+    streams: &Streams,
+    file: &mut File,
     sheet: &[u8],
     choice: &[u8],
     lost: &[u8],
@@ -209,8 +233,9 @@ fn serve(
     let n = stream::n_of(sheet);
     if limits::LARGEST_N < n {
         refuse(
+            streams,
             b"repair: sheet.bin is not 68 N bytes long for an N of 1, 2, 4, .. 512; no strip was read\n",
-            fd,
+            file,
             sheet,
             choice,
             lost,
@@ -220,8 +245,9 @@ fn serve(
         );
     } else if choice.len() != 2 {
         refuse(
+            streams,
             b"repair: choice.bin is not two bytes long; no strip was read\n",
-            fd,
+            file,
             sheet,
             choice,
             lost,
@@ -231,7 +257,8 @@ fn serve(
         );
     } else {
         run(
-            fd,
+            streams,
+            file,
             sheet,
             choice,
             lost,
@@ -257,18 +284,19 @@ fn parts_room() -> [u8; REPAIRED]
 }
 
 // Reads the three files, makes the room for a run, once, and serves.
-fn work(fd: i32, marks: &[u8]) {
+fn work(streams: &Streams, file: &mut File, marks: &[u8]) {
     let mut sheet = [0u8; SHEET];
     let mut choice = [0u8; CHOICE];
     let mut lost = [0u8; MARKS];
-    let s = files::load_sheet(&mut sheet);
-    let c = files::load_choice(&mut choice);
-    let l = files::load_marks(marks, &mut lost);
+    let s = files::load_sheet(streams, &mut sheet);
+    let c = files::load_choice(streams, &mut choice);
+    let l = files::load_marks(streams, marks, &mut lost);
     let mut input = strips_room();
     let mut repaired = parts_room();
     let mut records = [0u8; RECORDS];
     serve(
-        fd,
+        streams,
+        file,
         &sheet[0..s],
         &choice[0..c],
         &lost[0..l],
@@ -278,16 +306,27 @@ fn work(fd: i32, marks: &[u8]) {
     );
 }
 
-// Opens the file of the records, and works.
-fn main() {
-    let mut name = [0u8; PATH_MAX];
-    let r = os::arg(2, &mut name);
-    let fd = os::open_overwrite(&name[0..r]);
-    if !intake::opened(fd) {
-        os::fail(b"repair: the records");
-        return;
+// Puts argument i to the start of name, and answers how many bytes it has; 0 where there is none, or no room for it.
+fn argument(streams: &Streams, i: usize, name: &mut [u8]) -> usize
+    ensures { result ≤ length name.new }
+{
+    match streams.runtime().arg(i, name) {
+        Ok(n) => n,
+        Err(_) => 0,
     }
-    let m = os::arg(1, &mut name);
-    work(fd, &name[0..m]);
-    libc::close(fd);
+}
+
+// Opens the file of the records, and works.
+fn main(rt: HostRuntime) -> ExitCode {
+    let streams = Streams::new(rt);
+    let mut name = [0u8; PATH];
+    let r = argument(&streams, 2, &mut name);
+    match streams.create(&name[0..r]) {
+        Ok(mut file) => {
+            let m = argument(&streams, 1, &mut name);
+            work(&streams, &mut file, &name[0..m]);
+        }
+        Err(why) => streams.fail(b"repair: the records", Some(why)),
+    }
+    streams.status()
 }

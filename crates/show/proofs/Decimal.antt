@@ -1,66 +1,36 @@
--- The digits of a number are fixed by how few they are: what `io::decimal` promises is `decimal`.
-use mathlib.Core.Path.{◌≡◌, refl, ap, ◌∙◌}
+-- What std writes for a number of 64 bits is `decimal`.
+use mathlib.Core.Path.{◌≡◌, ap, ◌∙◌}
 use Prim.Native.Nat.{ℕ, zero, suc, ◌+◌, ◌-◌, ◌/◌, ◌%◌, ◌^◌, ◌≤◌, ◌<◌}
 use native.Mathlib.Omega.{arith}
 use mathlib.Core.List.{List, [], ◌∷◌, ◌++◌}
-use lib.ListN.{length, take, replicate}
-use borrow.Author.Tests.{lt-ltb, le-ltb, ltb-true, ltb-false}
-use mathlib.Core.Bool.{Bool, true, false}
-use lib.Dec.{ltb}
-use native.Mathlib.Nat.{pow-le-pow_right}
-use Rattle.io.specs.Counts.{IsPrefixLen}
-use Rattle.io.specs.Digits.{hex_digit_ascii, last_digits, IsDigitCount}
+use lib.ListN.{length, replicate}
+use borrow.Author.Tests.{lt-ltb, le-ltb}
+use Rattle.std.specs.Fmt.{decimal as digits_of}
+use Rattle.std.proofs.lemmas.Fmt.{decimal_digit, decimal_step, length-decimal-le}
 use Rattle.show.specs.Text.{decimal_in, decimal, wide}
-
-last : (n : ℕ) → hex_digit_ascii (n % 10) ≡ 48 + n % 10
-last n = rw (lt-ltb (n % 10) 10 (omega arith))
-
-some : (k : ℕ) → 0 < 10 ^ k
-some zero = omega arith
-some (suc k) = omega (arith, some k)
-
--- two digits or more
-more : (n k : ℕ) → IsDigitCount 10 1 n (suc (suc k)) → 10 ^ suc k ≤ n
-more n k (l, u, m) = let e : suc (suc k) - 1 ≡ suc k = omega arith in rw e at (m (omega arith))
-
-fewer : (n k : ℕ) → IsDigitCount 10 1 n (suc (suc k)) → IsDigitCount 10 1 (n / 10) (suc k)
-fewer n zero h = (omega arith, omega (arith, h.1), λ z. absurd (omega arith))
-fewer n (suc k) h =
-    let e : suc (suc k) - 1 ≡ suc k = omega arith in
-    let p = more n (suc k) h in
-    (omega arith, omega (arith, h.1), λ z. rw e (omega (arith, p)))
+use mathlib.Core.Logic.{⊎_elim}
+use Rattle.bits.proofs.Tests.{le_or_lt}
 
 -- twenty digits hold any number of 64 bits
-pub few : (n k : ℕ) → n < 2 ^ 64 → IsDigitCount 10 1 n k → k ≤ 20
-few n k h f = go (ltb 20 k) refl
-  where
-    go : (b : Bool) → ltb 20 k ≡ b → k ≤ 20
-    go true e =
-        let l = ltb-true 20 k e in
-        absurd (omega (arith, f.2 (omega arith), pow-le-pow_right {n = 10} (omega arith) {i = 20} {j = k - 1} (omega arith)))
-    go false e = ltb-false 20 k e
+pub few : (n : ℕ) → n < 2 ^ 64 → length (digits_of n) ≤ 20
+few n h = length-decimal-le 20 n (omega arith) (omega arith) h
 
-pub decimal_in_lem : (f n k : ℕ) → n ≤ f → IsDigitCount 10 1 n k → last_digits 10 k n ≡ decimal_in f n
-decimal_in_lem f n zero z h = absurd (omega arith)
-decimal_in_lem zero n (suc zero) z h = ap (λ (x : ℕ). x ∷ []) (last n)
-decimal_in_lem zero n (suc (suc k)) z h = absurd (omega (arith, more n k h, some k))
-decimal_in_lem (suc f) n (suc zero) z h = rw (lt-ltb n 10 (omega arith)) (ap (λ (x : ℕ). x ∷ []) (last n))
-decimal_in_lem (suc f) n (suc (suc k)) z h =
-    let p = more n k h in
-    rw (le-ltb n 10 (omega (arith, some k)))
-    (ap (λ (l : List ℕ). l ++ (hex_digit_ascii (n % 10) ∷ [])) (decimal_in_lem f (n / 10) (suc k) (omega (arith, p, some k)) (fewer n k h))
-    ∙ ap (λ (x : ℕ). decimal_in f (n / 10) ++ (x ∷ [])) (last n))
+below : (f n : ℕ) → n < 10 → n ≤ suc f → digits_of n ≡ decimal_in (suc f) n
+below f n s l = rw (lt-ltb n 10 s) (decimal_digit n s ∙ ap (λ (x : ℕ). (48 + x) ∷ []) (omega (arith, s)))
 
-pub decimal-is : (n k : ℕ) → IsDigitCount 10 1 n k → last_digits 10 k n ≡ decimal n
+beyond : (f n : ℕ) → 10 ≤ n → n < 2 ^ 64 → digits_of (n / 10) ≡ decimal_in f (n / 10) → digits_of n ≡ decimal_in (suc f) n
+beyond f n s h e = rw (le-ltb n 10 s) (decimal_step n s h ∙ ap (λ (t : List ℕ). t ++ ((48 + n % 10) ∷ [])) e)
+
+pub decimal_in_lem : (f n : ℕ) → n ≤ f → n < 2 ^ 64 → digits_of n ≡ decimal_in f n
+decimal_in_lem zero n l h = decimal_digit n (omega arith) ∙ ap (λ (x : ℕ). (48 + x) ∷ []) (omega arith)
+decimal_in_lem (suc f) n l h =
+    ⊎_elim (λ s. beyond f n s h (decimal_in_lem f (n / 10) (omega (arith, s, l)) (omega arith))) (λ s. below f n s l) (le_or_lt 10 n)
+
+pub decimal-is : (n : ℕ) → n < 2 ^ 64 → digits_of n ≡ decimal n
 unfolding decimal
-decimal-is n k h = decimal_in_lem n n k (omega arith) h
+decimal-is n h = decimal_in_lem n n (omega arith) h
 
--- spaces, then the k digits at the start of b
-pub wide_is : (w n k : ℕ) (b : List ℕ) → IsPrefixLen k b → IsDigitCount 10 1 n k → take k b ≡ last_digits 10 k n → replicate (w - k) 32 ++ take (k - 0) b ≡ wide w n
+-- spaces, then the digits
+pub wide_is : (w n : ℕ) → n < 2 ^ 64 → replicate (w - length (digits_of n)) 32 ++ digits_of n ≡ wide w n
 unfolding wide
-wide_is w n k b c f d =
-    let e : k - 0 ≡ k = omega arith in
-    let s : take k b ≡ decimal n = d ∙ decimal-is n k f in
-    ap (λ (j : ℕ). replicate (w - k) 32 ++ take j b) e
-    ∙ ap (λ (j : ℕ). replicate (w - j) 32 ++ take k b) c.1
-    ∙ ap (λ (l : List ℕ). replicate (w - length l) 32 ++ l) s
+wide_is w n h = ap (λ (t : List ℕ). replicate (w - length t) 32 ++ t) (decimal-is n h)

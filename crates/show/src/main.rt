@@ -1,5 +1,7 @@
 // Prints answer records as text. Standard input holds records one after the other; each becomes a line, in order: the verdict
 // in words with g, m and d, or a refusal and what it means. A cut-off last record gets no line.
+#![tactic(auto)]
+
 ghost use Rattle.std.specs.Prelude.{◌≡◌, ◌≤◌, length, take};
 ghost use Rattle.meaning.specs.Stream.{answer_bytes};
 ghost use Rattle.show.specs.Line.{longest_line};
@@ -9,14 +11,15 @@ ghost use Rattle.show.specs.Turn.{written};
 mod line;
 mod text;
 
-use libc::{STDERR_FILENO, STDIN_FILENO, STDOUT_FILENO};
+use intake::Streams;
 use meaning::limits;
+use std::process::ExitCode;
 
 // Bytes of the longest line.
 const LONGEST: usize = 110;
 
 // How many turns were made, and whether there was more to come.
-#[derive(Drop)]
+#[derive(Clone, Copy)]
 pub struct Run {
     pub made: u64,
     pub more: bool,
@@ -35,42 +38,41 @@ fn shown(answer: &[u8], got: usize, out: &mut [u8]) -> usize
 }
 
 // Writes s to standard output, or says on standard error that it cannot; answers whether it could.
-fn write(s: &[u8]) -> bool {
-    let done = io::write_all(STDOUT_FILENO, s);
+fn write(streams: &Streams, s: &[u8]) -> bool {
+    let done = streams.put(&mut streams.output(), s).is_ok();
     if !done {
-        io::write_all(
-            STDERR_FILENO,
-            b"show: cannot write, some records are not shown\n",
-        );
+        streams.say(b"show: cannot write, some records are not shown\n");
     }
     done
 }
 
 // Reads a record and writes its line; answers whether to go on.
-fn turn(answer: &mut [u8], out: &mut [u8]) -> bool
+fn turn(streams: &Streams, answer: &mut [u8], out: &mut [u8]) -> bool
     requires { (length answer.old ≡ answer_bytes) × (longest_line ≤ length out.old) }
 {
-    let got = intake::read(STDIN_FILENO, answer);
+    let got = streams.read(answer);
     let k = shown(answer, got.n, out);
-    intake::goes_on(write(&out[0..k]), got.n, limits::ANSWER)
+    intake::goes_on(write(streams, &out[0..k]), got.n, limits::ANSWER)
 }
 
 // Turns until one answers that there is no more, or until no more can be counted.
-fn turns(answer: &mut [u8], out: &mut [u8]) -> Run
+fn turns(streams: &Streams, answer: &mut [u8], out: &mut [u8]) -> Run
     requires { (length answer.old ≡ answer_bytes) × (longest_line ≤ length out.old) }
     ensures { Ends result.made result.more }
 {
     let mut made = 0u64;
     let mut more = true;
     while more && made < u64::MAX {
-        more = turn(answer, out);
+        more = turn(streams, answer, out);
         made += 1;
     }
     Run { made, more }
 }
 
-fn main() {
+fn main(rt: HostRuntime) -> ExitCode {
+    let streams = Streams::new(rt);
     let mut answer = [0u8; limits::ANSWER];
     let mut out = [0u8; LONGEST];
-    turns(&mut answer, &mut out);
+    turns(&streams, &mut answer, &mut out);
+    streams.status()
 }

@@ -2,6 +2,8 @@
 ghost use Rattle.std.specs.Prelude.{◌≡◌, ◌+◌, ◌-◌, ◌≤◌, length, replicate};
 ghost use Rattle.show.specs.Text.{wide, Written};
 
+use itoa::Buffer;
+
 // The text s.
 pub fn put(out: &mut [u8], at: usize, s: &[u8]) -> usize
     requires { at + length s.now ≤ length out.old }
@@ -32,8 +34,8 @@ pub fn put_number(out: &mut [u8], at: usize, n: u64, width: usize) -> usize
     requires { (width ≤ 20) × (at + 20 ≤ length out.old) }
     ensures { Written out.old out.new at result (wide width n) × (result ≤ at + 20) }
 {
-    let mut digits = [0u8; 20];
-    let k = io::decimal(n, &mut digits);
-    let start = pad(out, at, k, width);
-    put(out, start, &digits[0..k])
+    let mut buffer = Buffer::new();
+    let digits = buffer.format(n).as_bytes();
+    let start = pad(out, at, digits.len(), width);
+    put(out, start, digits)
 }

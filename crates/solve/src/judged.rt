@@ -6,16 +6,16 @@ use crate::verdict;
 use crate::verdict::Verdict;
 
 // Prints the verdict on a line.
-fn tell(v: Verdict) {
+fn tell(rt: &HostRuntime, v: Verdict) {
     match v {
         Verdict::Misfit => {
-            io::write_all(1, b"misfit\n");
+            let _ = println!(rt; "misfit");
         }
         Verdict::Solvable => {
-            io::write_all(1, b"solvable\n");
+            let _ = println!(rt; "solvable");
         }
         Verdict::Not => {
-            io::write_all(1, b"not solvable\n");
+            let _ = println!(rt; "not solvable");
         }
     }
 }
@@ -31,28 +31,28 @@ fn number(v: Verdict) -> u8
 }
 
 // Judges a system, prints the verdict and checks that it is v.
-fn judge(eqs: &mut [u64], c: usize, w: usize, v: Verdict)
+fn judge(rt: &HostRuntime, eqs: &mut [u64], c: usize, w: usize, v: Verdict)
     requires { verdict_of c w eqs.old ≡ v }
 {
     let got = verdict::solvable(eqs, c, w);
-    tell(got);
+    tell(rt, got);
     check::expect(number(got) == number(v));
 }
 
 // x0 + x64 = 1 and x65 = 1.
-pub fn sound() {
+pub fn sound(rt: &HostRuntime) {
     let mut eqs = [1u64, 1, 1, 0, 2, 1];
-    judge(&mut eqs, 2, 3, Verdict::Solvable);
+    judge(rt, &mut eqs, 2, 3, Verdict::Solvable);
 }
 
 // x0 + x1 = 1, x1 + x2 = 0 and x0 + x2 = 0, whose sum is 0 = 1.
-pub fn contradiction() {
+pub fn contradiction(rt: &HostRuntime) {
     let mut eqs = [3u64, 1, 6, 0, 5, 0];
-    judge(&mut eqs, 1, 2, Verdict::Not);
+    judge(rt, &mut eqs, 1, 2, Verdict::Not);
 }
 
 // No word is left for the constant.
-pub fn no_constant() {
+pub fn no_constant(rt: &HostRuntime) {
     let mut eqs = [3u64, 1];
-    judge(&mut eqs, 2, 2, Verdict::Misfit);
+    judge(rt, &mut eqs, 2, 2, Verdict::Misfit);
 }

@@ -5,37 +5,35 @@ ghost use Rattle.gf2.specs.Solve.{done, solved};
 use gf2::Outcome;
 
 // Prints the words on a line.
-fn line(v: &[u64]) {
+fn line(rt: &HostRuntime, v: &[u64]) {
     let mut i = 0;
     while i < v.len() {
-        io::write_all(1, b" ");
-        io::print_decimal(1, v[i]);
+        let x = v[i];
+        let _ = print!(rt; " {x}");
         i += 1;
     }
-    io::write_all(1, b"\n");
+    let _ = println!(rt; "");
 }
 
 // Prints the outcome on a line.
-fn answer(o: Outcome) {
+fn answer(rt: &HostRuntime, o: Outcome) {
     match o {
         Outcome::Misfit => {
-            io::write_all(1, b"misfit\n");
+            let _ = println!(rt; "misfit");
         }
         Outcome::Rank(k) => {
-            io::write_all(1, b"rank ");
-            io::print_decimal(1, k as u64);
-            io::write_all(1, b"\n");
+            let _ = println!(rt; "rank {k}");
         }
     }
 }
 
 // Eliminates, prints what is left, and answers as `eliminate` does.
-pub fn solve(eqs: &mut [u64], rest: &mut [u64], c: usize, w: usize) -> Outcome
+pub fn solve(rt: &HostRuntime, eqs: &mut [u64], rest: &mut [u64], c: usize, w: usize) -> Outcome
     ensures { done eqs.new rest.new result ≡ solved c w eqs.old rest.old }
 {
     let o = gf2::eliminate(eqs, rest, c, w);
-    answer(o);
-    line(eqs);
-    line(rest);
+    answer(rt, o);
+    line(rt, eqs);
+    line(rt, rest);
     o
 }

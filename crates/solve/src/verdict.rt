@@ -8,7 +8,7 @@ ghost use Rattle.solve.specs.Verdicts.{is_zero, verdict_of};
 
 use gf2::Outcome;
 
-#[derive(Drop)]
+#[derive(Clone, Copy)]
 pub enum Verdict {
     Misfit,
     Solvable,

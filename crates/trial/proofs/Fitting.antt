@@ -1,6 +1,7 @@
 -- What the ops on parts of a buffer leave.
 --     take_least, drop_least      as many as are asked for, or all
 --     fitted                      a copy of as much as there is room for
+--     copied_whole                a copy that has room
 --     copied-out, copied_back     the front of an output, copied out of it, and what comes back copied to it
 --     beside_is                   the front and the rest of an output as two buffers
 --     least_is                    the same, of as many bytes as are asked for, or all
@@ -42,6 +43,10 @@ fitted from to p x k e f q =
     let long : length p ≡ k = ap length f ∙ length-take-le k from (omega arith) in
     q ∙ ap₂ {C = List ℕ} (λ a b. a ++ b) (take-length p ∙ f ∙ take_least (length to) k from (omega arith)) (drop_least (length from) (length p) to (long ∙ e))
 
+-- all of p is copied where there is room for it
+pub copied_whole : (p d x : List ℕ) → x ≡ take (length d) p ++ drop (length p) d → length p ≤ length d → x ≡ take (length p) p ++ drop (length p) d
+copied_whole p d x q h = q ∙ ap (λ (t : List ℕ). t ++ drop (length p) d) (take_all (length d) p h ∙ sym (take-length p))
+
 -- a copy into a slice of the same length
 copy_over : (p d x : List ℕ) → length d ≤ length p → x ≡ take (length p) p ++ drop (length p) d → x ≡ p
 copy_over p d x h q = q ∙ ap₂ {C = List ℕ} (λ a b. a ++ b) (take-length p) (drop_of_length-le d h) ∙ append-nil p
@@ -52,6 +57,17 @@ module _ (out records : List ℕ) (m : ℕ) (h : m ≤ length out) (l : length r
   copied-out x q =
       let e : length (take (m - 0) out) ≡ m = ap length (front m out) ∙ length-take-le m out h in
       copy_over (take (m - 0) out) records x (omega arith) q ∙ front m out
+
+  -- there is room for the records where they are copied from, and where they are copied to
+  pub room_out : length (take (m - 0) out) ≤ length records
+  room_out = omega (arith, ap length (front m out) ∙ length-take-le m out h, l)
+
+  pub room_back : (rep rec : List ℕ) → length rec ≡ m → length rec ≤ length (take (m - 0) (put_mid m (length out - m) out rep))
+  room_back rep rec k =
+      let o = put_mid m (length out - m) out rep in
+      let n : length (take m out) ≡ m = length-take-le m out h in
+      let z : length (take (m - 0) o) ≡ m = ap length (front m o ∙ ap (take m) (back out rep m) ∙ take_at (take m out) rep m n) ∙ n in
+      omega (arith, z, k)
 
   -- after it the output is the two end to end: `rep` in place of the rest, and `rec` copied to the front
   pub copied_back : (rep rec y : List ℕ) → length rec ≡ m

@@ -1,13 +1,17 @@
 // Answers requests that stand on standard input one after the other, each by one call of a public
 // function of the other crates, so that any second implementation can be held to them. docs/TRIAL.md
 // says what a request and an answer are. Numbers are low byte first.
+#![tactic(auto)]
+
 ghost use Rattle.std.specs.Prelude.{◌≡◌, ◌+◌, ◌<◌, ◌≤◌, ◌%◌, ◌/◌, length, replicate};
 ghost use Rattle.trial.specs.Layout.{two_at, four_at, Says, Spells, HasRoom, most_out};
 
 mod ops;
 
-use libc::{STDERR_FILENO, STDIN_FILENO, STDOUT_FILENO};
+use intake::Streams;
 use meaning::Answer;
+use std::io::Read;
+use std::process::ExitCode;
 
 // The most bytes that a request may give for each of a, b and c.
 const MOST: usize = 40000;
@@ -16,7 +20,7 @@ const MOST: usize = 40000;
 const MOST_OUT: usize = 140000;
 
 // What a request's header says: the call, its numbers, and the lengths of a, b, c and the output.
-#[derive(Drop)]
+#[derive(Clone, Copy)]
 struct Request {
     op: usize,
     n: usize,
@@ -29,7 +33,7 @@ struct Request {
 }
 
 // What a call came to: an answer, the bytes that a view has, or nothing where no call has the op.
-#[derive(Drop)]
+#[derive(Clone, Copy)]
 enum Reply {
     Answered(Answer),
     Viewed(usize),
@@ -144,22 +148,21 @@ fn blank(out: &mut [u8])
 }
 
 // Fills s from standard input; answers whether there was enough.
-fn read(s: &mut [u8]) -> bool {
-    let n = io::read_full(STDIN_FILENO, s);
-    n == s.len()
+fn read(streams: &Streams, s: &mut [u8]) -> bool {
+    streams.runtime().stdin().read_exact(s).is_ok()
 }
 
 // Writes s to standard output, or says on standard error that it cannot; answers whether it could.
-fn write(s: &[u8]) -> bool {
-    let written = io::write_all(STDOUT_FILENO, s);
+fn write(streams: &Streams, s: &[u8]) -> bool {
+    let written = streams.put(&mut streams.output(), s).is_ok();
     if !written {
-        io::write_all(STDERR_FILENO, b"trial: cannot write\n");
+        streams.say(b"trial: cannot write\n");
     }
     written
 }
 
 // Makes the call of a request on its body (a, b, c) and writes the answer; answers whether to go on.
-fn respond(q: Request, body: &[u8], out: &mut [u8]) -> bool
+fn respond(streams: &Streams, q: Request, body: &[u8], out: &mut [u8]) -> bool
     requires { (q.a + q.b + q.c ≡ length body.now) × (length out.old ≤ most_out) }
 {
     let i = q.a;
@@ -174,25 +177,26 @@ fn respond(q: Request, body: &[u8], out: &mut [u8]) -> bool
         &body[j..],
         out,
     ) {
-        Reply::Answered(answer) => write(&start(answers::numbers(answer))) && write(out),
-        Reply::Viewed(bytes) => write(&start([0, bytes, 0, 0, 0])) && write(out),
+        Reply::Answered(answer) => write(streams, &start(answers::numbers(answer)))
+            && write(streams, out),
+        Reply::Viewed(bytes) => write(streams, &start([0, bytes, 0, 0, 0])) && write(streams, out),
         Reply::Unknown => false,
     }
 }
 
 // Reads the body of a request into the part lent for it, and responds; answers whether to go on.
-fn serve(q: Request, body: &mut [u8], out: &mut [u8]) -> bool
+fn serve(streams: &Streams, q: Request, body: &mut [u8], out: &mut [u8]) -> bool
     requires { (q.a + q.b + q.c ≡ length body.old) × (length out.old ≤ most_out) }
 {
-    if !read(body) {
+    if !read(streams, body) {
         return false;
     }
     blank(out);
-    respond(q, body, out)
+    respond(streams, q, body, out)
 }
 
 // Serves a request in the room lent, if it asks for no more; answers whether to go on.
-fn place(q: Request, room: &mut [u8], out: &mut [u8]) -> bool
+fn place(streams: &Streams, q: Request, room: &mut [u8], out: &mut [u8]) -> bool
     requires { HasRoom room.old out.old }
 {
     if MOST < q.a {
@@ -209,34 +213,36 @@ fn place(q: Request, room: &mut [u8], out: &mut [u8]) -> bool
     if MOST_OUT < o {
         return false;
     }
-    serve(q, &mut room[0..n], &mut out[0..o])
+    serve(streams, q, &mut room[0..n], &mut out[0..o])
 }
 
 // Takes one request from its header on, in the room lent; answers whether to go on.
-fn turn(room: &mut [u8], out: &mut [u8]) -> bool
+fn turn(streams: &Streams, room: &mut [u8], out: &mut [u8]) -> bool
     requires { HasRoom room.old out.old }
 {
     let mut head = [0u8; 24];
-    if !read(&mut head) {
+    if !read(streams, &mut head) {
         return false;
     }
-    place(parse(&head), room, out)
+    place(streams, parse(&head), room, out)
 }
 
 // Takes requests until one is not answered. It counts down, from a number that no run uses up, since a
 // proved loop has to end and nothing says that the input does.
-fn turns(room: &mut [u8], out: &mut [u8])
+fn turns(streams: &Streams, room: &mut [u8], out: &mut [u8])
     requires { HasRoom room.old out.old }
 {
     let mut left = u64::MAX;
-    while left > 0 && turn(room, out) {
+    while left > 0 && turn(streams, room, out) {
         left -= 1;
     }
 }
 
 // Makes the room for a body and for the output, once, and takes the requests.
-fn main() {
+fn main(rt: HostRuntime) -> ExitCode {
+    let streams = Streams::new(rt);
     let mut room = [0u8; 3 * MOST];
     let mut out = [0u8; MOST_OUT];
-    turns(&mut room, &mut out);
+    turns(&streams, &mut room, &mut out);
+    streams.status()
 }

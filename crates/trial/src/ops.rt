@@ -6,6 +6,7 @@ ghost use Rattle.strip_stream.specs.Strips.{leaving_both, answering_strips};
 ghost use Rattle.trial.specs.Layout.{most_out};
 
 use super::MOST_OUT;
+use bits::octets;
 use meaning::Answer;
 
 // The smaller of two numbers.
@@ -23,7 +24,7 @@ fn copy_fitting(from: &[u8], to: &mut [u8])
     ensures { to.new ≡ take (length to.old) from.now ++ drop (length from.now) to.old }
 {
     let k = least(from.len(), to.len());
-    bytes::copy(&from[0..k], to);
+    octets::copy(&from[0..k], to);
 }
 
 // Op 8: as many bytes of a cartridge's record as the output has room for, at its start; answers how many the record has.
@@ -51,9 +52,9 @@ fn repair_beside(
     requires { (n ≤ length c.now) × (r ≤ length out.old) × (length records.old ≡ r) }
     ensures { leaving_both (drop r out.new) (take r out.new) result ≡ answering_strips sheet.now (take n c.now) (drop n c.now) input.now (drop r out.old) (take r out.old) }
 {
-    bytes::copy(&out[0..r], records);
+    octets::copy(&out[0..r], records);
     let a = strip_stream::answer(sheet, &c[0..n], &c[n..], input, &mut out[r..], records);
-    bytes::copy(records, &mut out[0..r]);
+    octets::copy(records, &mut out[0..r]);
     a
 }
 

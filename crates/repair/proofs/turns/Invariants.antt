@@ -1,0 +1,13 @@
+use mathlib.Core.Path.{◌≡◌}
+use mathlib.Core.Bool.{false}
+use Prim.Native.Nat.{◌-◌, ◌≤◌}
+use lib.ListN.{length}
+use Rattle.intake.specs.Turns.{most_turns}
+use Rattle.repair.proofs.turns.Given as goal
+
+abbrev pub invariant-loop-more : goal.invariant-loop-more
+invariant-loop-more l =
+    (length l.input ≡ length l.initial.input) × (length l.repaired ≡ length l.initial.repaired) × (length l.records ≡ length l.initial.records) × (l.made ≤ most_turns) × (l.more ≡ false → 1 ≤ l.made)
+
+abbrev pub decreases-loop-more : goal.decreases-loop-more
+decreases-loop-more l = most_turns - l.made
