@@ -1,7 +1,7 @@
 // Answers a stream of words. Reads sheet.bin and choice.bin in the folder that it is run in, and words of N bytes on standard
 // input; writes a record for each to standard output, as 01 says. The answers are those of `stream::answer`, by
 // runs of whole words and then the rest; that these are the records of the whole input is a theorem (proofs/Joined,
-// `runs-joined`; stream/proofs/Promise, `Cut-all`).
+// `runs_joined`; stream/proofs/Promise, `cut_all`).
 // What cannot be read or written, and a file of wrong length, is said on standard error; else nothing is.
 #![tactic(auto)]
 

@@ -2,7 +2,7 @@
 // file that its first argument names, and strips of 64N bytes on standard input; writes the part of each strip, 65N bytes, to
 // standard output, and its record of 16 bytes to the file that its second argument names. The answers are those of
 // `strip_stream::answer`, by runs of whole strips and then the rest; that these are the parts and records of the whole input is a
-// theorem (proofs/Joined, `runs-joined`; strip_stream/proofs/Promise, `Cut-all`).
+// theorem (proofs/Joined, `runs_joined`; strip_stream/proofs/Promise, `cut_all`).
 // What cannot be read or written, and a file of wrong length, is said on standard error; else nothing is. Where the file of the
 // records cannot be opened, nothing is read or written.
 #![tactic(auto)]
