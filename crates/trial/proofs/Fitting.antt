@@ -1,7 +1,7 @@
 -- What the ops on parts of a buffer leave.
 --     take_least, drop_least      as many as are asked for, or all
 --     fitted                      a copy of as much as there is room for
---     copied_whole                a copy that has room
+--     room_out, room_back         there is room for both copies
 --     copied-out, copied_back     the front of an output, copied out of it, and what comes back copied to it
 --     beside_is                   the front and the rest of an output as two buffers
 --     least_is                    the same, of as many bytes as are asked for, or all
@@ -42,10 +42,6 @@ pub fitted : (from to p x : List ℕ) (k : ℕ) → k ≡ min (length from) (len
 fitted from to p x k e f q =
     let long : length p ≡ k = ap length f ∙ length-take-le k from (omega arith) in
     q ∙ ap₂ {C = List ℕ} (λ a b. a ++ b) (take-length p ∙ f ∙ take_least (length to) k from (omega arith)) (drop_least (length from) (length p) to (long ∙ e))
-
--- all of p is copied where there is room for it
-pub copied_whole : (p d x : List ℕ) → x ≡ take (length d) p ++ drop (length p) d → length p ≤ length d → x ≡ take (length p) p ++ drop (length p) d
-copied_whole p d x q h = q ∙ ap (λ (t : List ℕ). t ++ drop (length p) d) (take_all (length d) p h ∙ sym (take-length p))
 
 -- a copy into a slice of the same length
 copy_over : (p d x : List ℕ) → length d ≤ length p → x ≡ take (length p) p ++ drop (length p) d → x ≡ p
