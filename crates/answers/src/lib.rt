@@ -1,9 +1,9 @@
-// What an answer says: its five numbers, the start of its record, and whether a call can go on. And the pieces of an input.
+// What an answer says: its five numbers, the start of its record, and whether it is Done. And the pieces of an input.
 #![tactic(auto)]
 
 ghost use Rattle.std.specs.Prelude.{◌≡◌};
 ghost use Rattle.meaning.specs.Answers.{numbers_of, is_done};
-ghost use Rattle.meaning.specs.Stream.{header};
+ghost use Rattle.meaning.specs.Stream.{two_bytes, header};
 
 pub mod pieces;
 
@@ -31,53 +31,31 @@ pub fn numbers(a: Answer) -> [usize; 5]
     }
 }
 
+// A number as two bytes, the low one first, but for what they cannot hold.
+pub fn two_bytes(x: usize) -> [u8; 2]
+    ensures { result ≡ two_bytes x }
+{
+    ((x % 65536) as u16).to_le_bytes()
+}
+
 // The first 16 bytes of an answer's record: code, place, g, m, d, two bytes each, low first, then six zeros.
 pub fn header(a: Answer) -> [u8; limits::HEAD]
     ensures { result ≡ header a }
 {
-    let v = numbers(a);
+    let [code, place, g, m, d] = numbers(a);
+    let code = two_bytes(code);
+    let place = two_bytes(place);
+    let g = two_bytes(g);
+    let m = two_bytes(m);
+    let d = two_bytes(d);
     [
-        (v[0] % 256) as u8,
-        (v[0] / 256 % 256) as u8,
-        (v[1] % 256) as u8,
-        (v[1] / 256 % 256) as u8,
-        (v[2] % 256) as u8,
-        (v[2] / 256 % 256) as u8,
-        (v[3] % 256) as u8,
-        (v[3] / 256 % 256) as u8,
-        (v[4] % 256) as u8,
-        (v[4] / 256 % 256) as u8,
-        0,
-        0,
-        0,
-        0,
-        0,
-        0,
+        code[0], code[1], place[0], place[1], g[0], g[1], m[0], m[1], d[0], d[1], 0, 0, 0, 0, 0, 0,
     ]
 }
 
-// Whether an answer is Done, so that a call can go on.
+// Whether an answer is Done. Nothing here asks any more: it stands for its promise and the two edits of it.
 pub fn is_done(a: Answer) -> bool
     ensures { result ≡ is_done a }
 {
-    match a {
-        Answer::Done => true,
-        Answer::Unique { g: _, m: _ } => false,
-        Answer::Ambiguous { g: _, m: _, d: _ } => false,
-        Answer::Inconsistent { g: _, m: _ } => false,
-        Answer::LaneInconsistent {
-            lane: _,
-            g: _,
-            m: _,
-        } => false,
-        Answer::BadShape => false,
-        Answer::BadRecord { place: _ } => false,
-        Answer::BadCheck => false,
-        Answer::BadLength => false,
-        Answer::BadSymbol { place: _ } => false,
-        Answer::ShortOutput => false,
-        Answer::BadCeiling => false,
-        Answer::TooMany { g: _ } => false,
-        Answer::HoldsNothing => false,
-    }
+    matches!(a, Answer::Done)
 }

@@ -6,13 +6,7 @@ ghost use Rattle.meaning.specs.Stream.{rounded_up, piece_end};
 pub fn count(len: usize, size: usize) -> usize
     ensures { result ≡ rounded_up len size }
 {
-    if len == 0 {
-        return 0;
-    }
-    if size == 0 {
-        return 0;
-    }
-    (len - 1) / size + 1
+    if size == 0 { 0 } else { len.div_ceil(size) }
 }
 
 // Where piece i ends: size bytes behind its start, or at the end of the input, whichever comes first.
@@ -22,8 +16,5 @@ pub fn end(i: usize, size: usize, len: usize) -> usize
     if size == 0 {
         return 0;
     }
-    if len / size <= i {
-        return len;
-    }
-    (i + 1) * size
+    if len / size <= i { len } else { (i + 1) * size }
 }

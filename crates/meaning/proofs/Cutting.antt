@@ -1,5 +1,5 @@
 -- An input cut into pieces of L bytes.
---     none_rounded, none_sized, some_rounded, rounded_le, rounded_few       how many there are
+--     none_sized, ceil_rounded, rounded_few         how many there are
 --     begins                                                                where a piece starts
 --     ends_nowhere, ends_last, ends-within, ends-first, end_room            where it ends
 --     piece_is                        piece i, as code cuts it out
@@ -11,10 +11,12 @@ use mathlib.Core.Path.{◌≡◌, refl, sym, ap, ap₂, ◌∙◌}
 use mathlib.Core.Logic.{◌⊎◌, inl, inr}
 use Prim.Native.Nat.{ℕ, suc, min, ◌+◌, ◌-◌, ◌*◌, ◌/◌, ◌%◌, ◌≤◌, ◌<◌}
 use native.Mathlib.Omega.{arith}
-use native.Mathlib.Nat.{div-zero, div-eq_of_lt, add-div_right, div-le_self, le-div_iff_mul-le, div-lt_iff_lt-mul, mul-add-div_right, add-zero, add-mul, div-add-mod'}
+use native.Mathlib.Nat.{div-zero, div-eq_of_lt, le-div_iff_mul-le, div-lt_iff_lt-mul, mul-add-div_right, add-zero, add-mul, div-add-mod'}
 use mathlib.Core.List.{List, [], ◌∷◌, ◌++◌, map, flatten, append_assoc}
 use lib.ListN.{length, take, drop, length-append, length-drop}
 use lib.Seq.{take_all, take-append-le, drop-append-le, drop-append-add}
+use Rattle.std.specs.Int.{div_ceil}
+use Rattle.std.proofs.lemmas.Grind.{div_ceil_times}
 use Rattle.bits.specs.Vectors.{tab}
 use Rattle.bits.proofs.Tests.{tab_append, tab_below, le_or_lt}
 use Rattle.bits.proofs.RowLaws.{row_fit}
@@ -28,20 +30,16 @@ unfolding rounded_up
 none_sized a b e = rw e (sym (div-zero (a + (0 - 1))))
 
 module _ (a b : ℕ) where
-  pub none_rounded : a ≡ 0 → 0 ≡ rounded_up a b
+  pub ceil_rounded : (b ≡ 0 → ⊥) → div_ceil a b ≡ rounded_up a b
   unfolding rounded_up
-  none_rounded e = go (le_or_lt 1 b)
-    where
-      go : (1 ≤ b) ⊎ (b < 1) → 0 ≡ (a + (b - 1)) / b
-      go (inl h) = let l : a + (b - 1) < b = omega arith in sym (div-eq_of_lt l)
-      go (inr h) = none_sized a b (omega arith)
-
-  pub some_rounded : (a ≡ 0 → ⊥) → (b ≡ 0 → ⊥) → (a - 1) / b + 1 ≡ rounded_up a b
-  unfolding rounded_up
-  some_rounded e h = let q : a - 1 + b ≡ a + (b - 1) = omega arith in let p : 0 < b = omega arith in sym (add-div_right (a - 1) p) ∙ ap (λ (k : ℕ). k / b) q
-
-  pub rounded_le : (a ≡ 0 → ⊥) → (a - 1) / b + 1 ≤ a
-  rounded_le e = omega (arith, div-le_self (a - 1) b)
+  ceil_rounded h =
+      let p : 0 < b = omega arith in
+      let t = div_ceil_times a b p in
+      let low : div_ceil a b ≤ (a + (b - 1)) / b = (le-div_iff_mul-le p).1 (omega (arith, t.1)) in
+      let high : (a + (b - 1)) / b < suc (div_ceil a b) =
+      (div-lt_iff_lt-mul p).1 (omega (arith, t.0, (let e : suc (div_ceil a b) * b ≡ div_ceil a b * b + b = omega arith in e)))
+      in
+      omega arith
 
 -- piece i of k starts within the input
 pub begins : (len L size i k : ℕ) → 0 < L → size ≡ L → k ≡ rounded_up len L → i < k → i * size < len

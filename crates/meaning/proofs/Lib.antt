@@ -18,6 +18,7 @@
 --     Holding                   a sheet that holds nothing is refused; any other that passes holds something
 --     Stuck                     a stuck run of leading zeros is caught
 --     Determined                a promise allows one result; what is refused leaves the buffer as found
+--     Results                   a refusal is never Done; results that are the same answer are the same
 --     Saying                    what 01 says of decoding, sentence by sentence
 --     Heading                   the bytes of an answer record before its strips
 --     Cutting                   an input cut into pieces
@@ -48,6 +49,7 @@ pub mod ReadBack
 pub mod Holding
 pub mod Stuck
 pub mod Determined
+pub mod Results
 pub mod Saying
 pub mod Heading
 pub mod Cutting

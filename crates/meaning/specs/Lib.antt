@@ -7,6 +7,7 @@
 --     Open         open positions, and the counts g and m
 --     Strips       settled, first, last; the dimension d
 --     Answers      the numbers of each answer; the refusals and the results of each call
+--     Results      what the result of a call is as an answer
 --     Said         what 01 says of decoding, sentence by sentence
 --     Stream       the answer record, and the output for a whole input
 --     Payload      how a codeword is made of its payload
@@ -19,6 +20,7 @@ pub mod Codewords
 pub mod Open
 pub mod Strips
 pub mod Answers
+pub mod Results
 pub mod Said
 pub mod Stream
 pub mod Payload

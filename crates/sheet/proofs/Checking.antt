@@ -1,5 +1,5 @@
 -- What checking a sheet answers, refusal by refusal, in the values that the code has by then:
--- t, whether the sheet has N records; size, their number; place, the first record that breaks a rule; k, the number of free records.
+-- t, whether the sheet has N records; size, their number; k, the number of free records.
 use mathlib.Core.Path.{◌≡◌, refl, sym, ap, ◌∙◌}
 use Prim.Native.Nat.{ℕ, ◌*◌, ◌/◌, ◌^◌, ◌<◌, ◌≤◌}
 use mathlib.Core.Bool.{Bool, true, false, ◌&&◌, ◌||◌, not}
@@ -12,6 +12,8 @@ use Rattle.meaning.specs.Limits.{largest_n, record_bytes}
 use Rattle.meaning.specs.Sheet.{fine, rule_at, rules, bad_record, frees}
 use Rattle.meaning.specs.Answers.{bad_shape, bad_check, sheet_refusals, checking}
 use Rattle.sheet.specs.Shapes.{recorded}
+use Rattle.sheet.specs.Records.{first_fault}
+use native.Mathlib.Omega.{arith}
 use Rattle.sheet.proofs.Shapes.{recorded-true}
 use Rattle.sheet.proofs.Records.{records_in}
 use Rattle.meaning.specs.declared.Answer.TheVariants.{Done, BadShape, BadRecord, HoldsNothing, BadCheck}
@@ -36,29 +38,31 @@ module _ (n : ℕ) (s : List ℕ) (r : ℕ) {t : Bool} (g : t ≡ recorded n (le
     e : size ≡ 2 ^ n
     e = records_in (length s) (2 ^ n) (recorded-true n (length s) (sym g ∙ not-false t h)).1
 
-    module _ (place : ℕ) (p : place ≡ first_place not (tab size (fine s))) where
-      first : place ≡ bad_record n s
-      unfolding bad_record
-      first = p ∙ ap (λ (m : ℕ). first_place not (tab m (fine s))) e
+    first : first_fault s ≡ bad_record n s
+    unfolding bad_record
+    first = ap (λ (m : ℕ). first_place not (tab m (fine s))) e
 
-      pub bad_record_lem : place < size → BadRecord place ≡ checking n s r
+    pub bad_record_lem : (place : ℕ) → place ≡ first_fault s → place < size → BadRecord place ≡ checking n s r
+    unfolding checking sheet_refusals
+    bad_record_lem place p b = rw (shape_recorded n s, ← g, h, ← first, ← p, ← e, lt-ltb place size b)
+
+    module _ (q : first_fault s ≡ size) (k : ℕ) (f : k ≡ frees (tab size (rule_at s))) where
+      within : size ≤ first_fault s
+      within = omega (arith, q)
+
+      count : frees (rules n s) ≡ k
+      unfolding rules
+      count = sym (f ∙ ap (λ (m : ℕ). frees (tab m (rule_at s))) e)
+
+      pub holds-nothing : k ≡ 0 → HoldsNothing ≡ checking n s r
       unfolding checking sheet_refusals
-      bad_record_lem b = rw (shape_recorded n s, ← g, h, ← first, ← e, lt-ltb place size b)
+      holds-nothing v = rw (shape_recorded n s, ← g, h, ← first, ← e, le-ltb (first_fault s) size within, count, eq-eqb k 0 v)
 
-      module _ (q : size ≤ place) (k : ℕ) (f : k ≡ frees (tab size (rule_at s))) where
-        count : frees (rules n s) ≡ k
-        unfolding rules
-        count = sym (f ∙ ap (λ (m : ℕ). frees (tab m (rule_at s))) e)
-
-        pub holds-nothing : k ≡ 0 → HoldsNothing ≡ checking n s r
+      module _ (some : k ≡ 0 → ⊥) (b : Bool) (c : b ≡ bad_check r k) where
+        pub bad_check_lem : b ≡ true → BadCheck ≡ checking n s r
         unfolding checking sheet_refusals
-        holds-nothing v = rw (shape_recorded n s, ← g, h, ← first, ← e, le-ltb place size q, count, eq-eqb k 0 v)
+        bad_check_lem v = rw (shape_recorded n s, ← g, h, ← first, ← e, le-ltb (first_fault s) size within, count, ne_eqb k 0 some, ← c, v)
 
-        module _ (some : k ≡ 0 → ⊥) (b : Bool) (c : b ≡ bad_check r k) where
-          pub bad_check_lem : b ≡ true → BadCheck ≡ checking n s r
-          unfolding checking sheet_refusals
-          bad_check_lem v = rw (shape_recorded n s, ← g, h, ← first, ← e, le-ltb place size q, count, ne_eqb k 0 some, ← c, v)
-
-          pub done : b ≡ false → Done ≡ checking n s r
-          unfolding checking sheet_refusals
-          done v = rw (shape_recorded n s, ← g, h, ← first, ← e, le-ltb place size q, count, ne_eqb k 0 some, ← c, v)
+        pub done : b ≡ false → Done ≡ checking n s r
+        unfolding checking sheet_refusals
+        done v = rw (shape_recorded n s, ← g, h, ← first, ← e, le-ltb (first_fault s) size within, count, ne_eqb k 0 some, ← c, v)

@@ -1,7 +1,7 @@
 -- A record is fine exactly when its head is and it names no position from the first barred one on; what it says of its position,
 -- by its first byte; the count of free records, one by one.
 use mathlib.Core.Path.{◌≡◌, refl, sym, ap, subst, ◌∙◌}
-use Prim.Native.Nat.{ℕ, zero, suc, ◌+◌, ◌-◌, ◌*◌, ◌/◌, ◌%◌, ◌^◌, ◌<◌, ◌≤◌}
+use Prim.Native.Nat.{ℕ, zero, suc, ◌+◌, ◌-◌, ◌*◌, ◌/◌, ◌^◌, ◌<◌, ◌≤◌}
 use native.Mathlib.Omega.{arith}
 use native.Mathlib.Numerals.{add-one}
 use mathlib.Core.Bool.{Bool, true, false, ◌&&◌, not, true≢false}
@@ -18,13 +18,13 @@ use Rattle.bits.proofs.WordBits.{zero_bit, leading_bit, shr_bit}
 use Rattle.sheet.specs.Masks.{Spelt}
 use Rattle.meaning.specs.Limits.{mask_bytes, record_bytes}
 use Rattle.meaning.specs.Sheet.{byte, names, mask, fine, Rule, free, frozen, frees, rule_at}
-use Rattle.sheet.specs.Records.{head_fine, barred, Passed}
+use Rattle.sheet.specs.Records.{head_fine, barred}
 
 and-false : (a : Bool) → a && false ≡ false
 and-false true = refl
 and-false false = refl
 
-pub fine-parts : (s : List ℕ) (i : ℕ) → fine s i ≡ head_fine s i && zeros (drop (barred s i) (mask s i))
+fine-parts : (s : List ℕ) (i : ℕ) → fine s i ≡ head_fine s i && zeros (drop (barred s i) (mask s i))
 unfolding fine head_fine barred
 fine-parts s i = go (byte s i 0) (byte s i 1) (eqb (byte s i 2) 0) (eqb (byte s i 3) 0)
   where
@@ -94,21 +94,6 @@ module _ (s : List ℕ) (i : ℕ) where
       let g : (t : ℕ) → t < k → names s i (j + 1 + t) ≡ false = λ t l. ap (names s i) (let e : j + 1 + t ≡ j + suc t = omega arith in e) ∙ f (suc t) (omega arith) in
       not_named j (omega arith) a ∙ none_named k (j + 1) (omega arith) g ∙ ap (λ (x : ℕ). zeros (drop x (mask s i))) (let e : j + 1 + k ≡ j + suc k = omega arith in e)
 
-  -- position j + t of the mask, in the word that has position j
-  named_in : (j x t : ℕ) → Spelt s i (j / 64) x → t < 64 - j % 64 → has_bit (x / 2 ^ (j % 64)) t ≡ names s i (j + t)
-  named_in j x t p l =
-      let q : 64 * (j / 64) + (j % 64 + t) ≡ j + t = omega arith in
-      shr_bit x (j % 64) t ∙ p.bits (j % 64 + t) (omega arith) ∙ ap (names s i) q
-
-  -- the rest of a word of the mask is zero: it names nothing
-  pub word_passed : (j x : ℕ) → j < 8 * mask_bytes → Spelt s i (j / 64) x → x / 2 ^ (j % 64) ≡ 0 → Passed s i j (64 - j % 64)
-  unfolding mask_bytes
-  word_passed j x h p e = record {
-    unnamed = λ t l. sym (named_in j x t p l) ∙ ap (λ (y : ℕ). has_bit y t) e ∙ zero_bit t;
-    within = omega arith;
-    stopped = λ z. absurd (omega arith);
-  }
-
   some-named : (j t : ℕ) → j + t < 8 * mask_bytes → names s i (j + t) ≡ true → zeros (drop j (mask s i)) ≡ false
   some-named j t h e = go (zeros (drop j (mask s i))) refl
     where
@@ -119,41 +104,52 @@ module _ (s : List ℕ) (i : ℕ) where
           let n : get_or (drop j (mask s i)) t false ≡ true = get_or-drop j (mask s i) t false ∙ mask_at (j + t) h ∙ e in
           absurd (true≢false (sym (all-at not false (drop j (mask s i)) z t l) ∙ ap not n))
 
-  -- else its highest bit is a name
-  pub word_stops : (j x : ℕ) → j < 8 * mask_bytes → Spelt s i (j / 64) x → (x / 2 ^ (j % 64) ≡ 0 → ⊥) → Passed s i j 0
-  unfolding mask_bytes
-  word_stops j x h p n = record {
-    unnamed = λ t l. absurd (omega arith);
-    within = omega arith;
-    stopped = λ z.
-        let e : 64 ≡ 64 - j % 64 + j % 64 = omega arith in
-        let small : x / 2 ^ (j % 64) < 2 ^ (64 - j % 64) = shr_lt (64 - j % 64) (j % 64) (subst (λ (y : ℕ). x < 2 ^ y) e p.small) in
-        let (t, k, b, a) = leading_bit (64 - j % 64) (x / 2 ^ (j % 64)) (omega (arith, n)) small in
-        some-named j t (omega arith) (sym (named_in j x t p (omega arith)) ∙ b);
-  }
+  -- word k of the mask without its places below j, which lie in it or before it: where it is zero all that it names lies below j
+  module _ (j k x : ℕ) (p : Spelt s i k x) (l : 64 * k + 64 ≤ 8 * mask_bytes) (within : j < 64 * k + 64) where
+    abbrev from : ℕ
+    from = 64 * k + (j - 64 * k)
+
+    named_in : (t : ℕ) → t < 64 - (j - 64 * k) → has_bit (x / 2 ^ (j - 64 * k)) t ≡ names s i (from + t)
+    named_in t h =
+        let q : 64 * k + (j - 64 * k + t) ≡ from + t = omega arith in
+        shr_bit x (j - 64 * k) t ∙ p.bits (j - 64 * k + t) (omega arith) ∙ ap (names s i) q
+
+    pub word_passed : x / 2 ^ (j - 64 * k) ≡ 0 → zeros (drop from (mask s i)) ≡ zeros (drop (64 * k + 64) (mask s i))
+    word_passed e =
+        let q : from + (64 - (j - 64 * k)) ≡ 64 * k + 64 = omega arith in
+        none_named (64 - (j - 64 * k)) from (omega arith) (λ t h. sym (named_in t h) ∙ ap (λ (y : ℕ). has_bit y t) e ∙ zero_bit t)
+        ∙ ap (λ (y : ℕ). zeros (drop y (mask s i))) q
+
+    pub word_stops : (x / 2 ^ (j - 64 * k) ≡ 0 → ⊥) → zeros (drop from (mask s i)) ≡ false
+    word_stops n =
+        let e : 64 ≡ 64 - (j - 64 * k) + (j - 64 * k) = omega arith in
+        let small : x / 2 ^ (j - 64 * k) < 2 ^ (64 - (j - 64 * k)) = shr_lt (64 - (j - 64 * k)) (j - 64 * k) (subst (λ (y : ℕ). x < 2 ^ y) e p.small) in
+        let (t, k', b, a) = leading_bit (64 - (j - 64 * k)) (x / 2 ^ (j - 64 * k)) (omega (arith, n)) small in
+        some-named from t (omega arith) (sym (named_in t (omega arith)) ∙ b)
 
   pub mask_end : (j : ℕ) → 8 * mask_bytes ≤ j → zeros (drop j (mask s i)) ≡ true
   mask_end j h = all_end not (mask s i) j (omega (arith, length-mask))
 
-module _ (s : List ℕ) (size i : ℕ) where
+module _ (s : List ℕ) (size : ℕ) where
   abbrev flags : List Bool
   flags = tab size (fine s)
 
   -- what is left to search at record i
   abbrev pub Left : ℕ → Type 0
-  Left k = k + first_place not (drop k flags) ≡ first_place not flags
+  Left i = i + first_place not (drop i flags) ≡ first_place not flags
 
-  flag_at : i < size → get_or flags i true ≡ fine s i
-  flag_at h = tab-at size (fine s) i true h
+  module _ (i : ℕ) where
+    flag_at : i < size → get_or flags i true ≡ fine s i
+    flag_at h = tab-at size (fine s) i true h
 
-  pub stops : i < size → fine s i ≡ false → Left i → i ≡ first_place not flags
-  stops h e l = sym (place_found not flags i true (omega (arith, length-tab size (fine s))) (ap not (flag_at h ∙ e))) ∙ l
+    pub stops : i < size → fine s i ≡ false → Left i → i ≡ first_place not flags
+    stops h e l = sym (place_found not flags i true (omega (arith, length-tab size (fine s))) (ap not (flag_at h ∙ e))) ∙ l
 
-  pub goes_on_lem : i < size → fine s i ≡ true → Left i → Left (i + 1)
-  goes_on_lem h e l = rw add-one (sym (place-next not flags i true (omega (arith, length-tab size (fine s))) (ap not (flag_at h ∙ e))) ∙ l)
+    pub goes_on_lem : i < size → fine s i ≡ true → Left i → Left (i + 1)
+    goes_on_lem h e l = rw add-one (sym (place-next not flags i true (omega (arith, length-tab size (fine s))) (ap not (flag_at h ∙ e))) ∙ l)
 
-  pub ends : size ≤ i → Left i → i ≡ first_place not flags
-  ends h l = sym (place_end not flags i (omega (arith, length-tab size (fine s)))) ∙ l
+  pub ends : (i : ℕ) → size ≤ i → Left i → i ≡ first_place not flags
+  ends i h l = sym (place_end not flags i (omega (arith, length-tab size (fine s)))) ∙ l
 
 -- ---- the rules, record by record
 
@@ -169,7 +165,7 @@ module _ (s : List ℕ) (i : ℕ) {b : Bool} (e : b ≡ eqb (byte s i 0) 0) wher
 
 -- ---- the count of free records
 
-module _ (s : List ℕ) (size i : ℕ) where
+module _ (s : List ℕ) (size : ℕ) where
   abbrev kinds : List Rule
   kinds = tab size (rule_at s)
 
@@ -177,22 +173,23 @@ module _ (s : List ℕ) (size i : ℕ) where
   abbrev pub Counted : ℕ → ℕ → Type 0
   Counted j c = c + frees (drop j kinds) ≡ frees kinds
 
-  pub rules-at : i < size → drop i kinds ≡ rule_at s i ∷ drop (suc i) kinds
-  rules-at h =
-      drop-cons kinds i free (omega (arith, length-tab size (rule_at s))) ∙ ap {B = List Rule} (λ x. x ∷ drop (suc i) kinds) (tab-at size (rule_at s) i free h)
+  module _ (i : ℕ) where
+    pub rules-at : i < size → drop i kinds ≡ rule_at s i ∷ drop (suc i) kinds
+    rules-at h =
+        drop-cons kinds i free (omega (arith, length-tab size (rule_at s))) ∙ ap {B = List Rule} (λ x. x ∷ drop (suc i) kinds) (tab-at size (rule_at s) i free h)
 
-  module _ {b : Bool} (h : i < size) (e : b ≡ eqb (byte s i 0) 0) where
-    pub frees-free : b ≡ true → frees (drop i kinds) ≡ suc (frees (drop (suc i) kinds))
-    frees-free t = ap frees (rules-at h ∙ ap {B = List Rule} (λ x. x ∷ drop (suc i) kinds) (rule_free s i e t))
+    module _ {b : Bool} (h : i < size) (e : b ≡ eqb (byte s i 0) 0) where
+      pub frees-free : b ≡ true → frees (drop i kinds) ≡ suc (frees (drop (suc i) kinds))
+      frees-free t = ap frees (rules-at h ∙ ap {B = List Rule} (λ x. x ∷ drop (suc i) kinds) (rule_free s i e t))
 
-    pub frees-frozen : b ≡ false → frees (drop i kinds) ≡ frees (drop (suc i) kinds)
-    frees-frozen t = ap frees (rules-at h ∙ ap {B = List Rule} (λ x. x ∷ drop (suc i) kinds) (rule_frozen s i e t))
+      pub frees-frozen : b ≡ false → frees (drop i kinds) ≡ frees (drop (suc i) kinds)
+      frees-frozen t = ap frees (rules-at h ∙ ap {B = List Rule} (λ x. x ∷ drop (suc i) kinds) (rule_frozen s i e t))
 
-    pub one_free : b ≡ true → (k : ℕ) → Counted i k → Counted (i + 1) (k + 1)
-    one_free t k l = rw (add-one i) (omega (arith, l, frees-free t))
+      pub one_free : b ≡ true → (k : ℕ) → Counted i k → Counted (i + 1) (k + 1)
+      one_free t k l = rw (add-one i) (omega (arith, l, frees-free t))
 
-    pub one_frozen : b ≡ false → (k : ℕ) → Counted i k → Counted (i + 1) k
-    one_frozen t k l = rw (add-one i) (omega (arith, l, frees-frozen t))
+      pub one_frozen : b ≡ false → (k : ℕ) → Counted i k → Counted (i + 1) k
+      one_frozen t k l = rw (add-one i) (omega (arith, l, frees-frozen t))
 
-  pub all-counted : size ≤ i → (k : ℕ) → Counted i k → k ≡ frees kinds
-  all-counted h k l = omega (arith, l, ap frees (drop_of_length-le kinds {i = i} (omega (arith, length-tab size (rule_at s)))))
+  pub all-counted : (i : ℕ) → size ≤ i → (k : ℕ) → Counted i k → k ≡ frees kinds
+  all-counted i h k l = omega (arith, l, ap frees (drop_of_length-le kinds {i = i} (omega (arith, length-tab size (rule_at s)))))

@@ -1,20 +1,21 @@
-// The one reader of code sheets: where their bytes lie, the numbers that n and r stand for, the checks of a sheet and of a word that
-// stand before every other call, in 01's order, and the count of a sheet's free positions. Every function here is total.
+// The one reader of code sheets: where their bytes lie, the numbers that n and r stand for, the checks of a sheet and of a word
+// that stand before every other call, in 01's order, and the count of a sheet's free positions. Every function here is total.
 #![tactic(auto)]
 
-ghost use Rattle.std.specs.Prelude.{◌≡◌, ◌/◌, length, eqb};
+ghost use Rattle.std.specs.Prelude.{◌≡◌, ◌/◌, length, eqb, ltb};
+ghost use Rattle.std.specs.List.{position};
 ghost use Rattle.bits.specs.Vectors.{tab};
 ghost use Rattle.meaning.specs.Limits.{record_bytes};
 ghost use Rattle.meaning.specs.Sheet.{byte, rule_at, frees};
 ghost use Rattle.meaning.specs.Answers.{check_length, fault, call_refusals, checking, wording};
+ghost use Rattle.meaning.specs.Results.{done_or_refusal};
 ghost use Rattle.sheet.specs.Masks.{WordOf};
 ghost use Rattle.sheet.specs.Shapes.{positions, recorded, shaped};
 
 mod faults;
-mod word;
 
 use bits::octets;
-use meaning::{Answer, limits};
+use meaning::{Refused, limits};
 
 // Words of a record's mask.
 pub const MASK_WORDS: usize = limits::MASK / 8;
@@ -101,61 +102,66 @@ pub fn shaped(n: usize, sheet: usize, word: usize) -> bool
 pub fn is_check_length(r: usize) -> bool
     ensures { result ≡ check_length r }
 {
-    if r == 0 {
-        return true;
-    }
-    if r == 6 {
-        return true;
-    }
-    r == 11
+    matches!(r, 0 | 6 | 11)
 }
 
 // Checks a sheet of N = 2 to the n records, with its check length r.
-// Answers Done, or BadShape (11: n above 9, or not 68N bytes), BadRecord (12: the place of the first record that breaks
+// Ok, or refuses: BadShape (11: n above 9, or not 68N bytes), BadRecord (12: the place of the first record that breaks
 // any rule), HoldsNothing (19: no free position), BadCheck (13: r not 0, 6 or 11, or r above 0 and no more than r free
 // positions); the first that applies.
-pub fn check_sheet(n: usize, sheet: &[u8], r: usize) -> Answer
-    ensures { result ≡ checking n sheet.now r }
+pub fn check_sheet(n: usize, sheet: &[u8], r: usize) -> Result<(), Refused>
+    ensures { done_or_refusal result ≡ checking n sheet.now r }
 {
     if !recorded(n, sheet.len()) {
-        return Answer::BadShape;
+        return Err(Refused::BadShape);
     }
-    let size = sheet.len() / limits::RECORD;
-    let place = faults::first_bad(sheet);
-    if place < size {
-        return Answer::BadRecord { place };
+    if let Some(place) = faults::first_bad(sheet) {
+        return Err(Refused::BadRecord { place });
     }
     let k = count_free(sheet);
     let bad = faults::bad_check(r, k);
     if k == 0 {
-        return Answer::HoldsNothing;
+        return Err(Refused::HoldsNothing);
     }
     if bad {
-        return Answer::BadCheck;
+        return Err(Refused::BadCheck);
     }
-    Answer::Done
+    Ok(())
+}
+
+// The place of the first symbol above `top`.
+fn first_above(word: &[u8], top: u8) -> Option<usize>
+    ensures { result ≡ position (ltb top) word.now }
+{
+    word.iter().position(|&s| s > top)
 }
 
 // Checks a word that is to be `wanted` symbols long, none above `top`, whose call is given `room` bytes and needs `needed`.
-// Answers Done, or BadLength (14), BadSymbol (15: the place of the first symbol above `top`), ShortOutput (16); the first
-// that applies.
-pub fn check_word(word: &[u8], wanted: usize, top: u8, room: usize, needed: usize) -> Answer
-    ensures { result ≡ wording wanted top needed word.now room }
+// Answers Ok, or why it refuses: BadLength (14), BadSymbol (15: the place of the first symbol above `top`), ShortOutput (16);
+// the first that applies.
+pub fn check_word(
+    word: &[u8],
+    wanted: usize,
+    top: u8,
+    room: usize,
+    needed: usize,
+) -> Result<(), Refused>
+    ensures { done_or_refusal result ≡ wording wanted top needed word.now room }
 {
     if word.len() != wanted {
-        return Answer::BadLength;
+        return Err(Refused::BadLength);
     }
-    let place = word::first_above(word, top);
-    if place < word.len() {
-        return Answer::BadSymbol { place };
+    if let Some(place) = first_above(word, top) {
+        return Err(Refused::BadSymbol { place });
     }
     if room < needed {
-        return Answer::ShortOutput;
+        return Err(Refused::ShortOutput);
     }
-    Answer::Done
+    Ok(())
 }
 
 // Checks the sheet and the word of a call, as check_sheet and then check_word do: the refusals 11 to 16 of every call.
+// Numbers one by one, as in the definition that its clause names: a struct for them would only be taken apart there.
 pub fn check_call(
     n: usize,
     sheet: &[u8],
@@ -165,13 +171,10 @@ pub fn check_call(
     top: u8,
     room: usize,
     needed: usize,
-) -> Answer
-    ensures { result ≡ fault (call_refusals n sheet.now r wanted top needed word.now room) }
+) -> Result<(), Refused>
+    ensures { done_or_refusal result ≡ fault (call_refusals n sheet.now r wanted top needed word.now room) }
 {
-    let a = check_sheet(n, sheet, r);
-    if !answers::is_done(a) {
-        return a;
-    }
+    check_sheet(n, sheet, r)?;
     check_word(word, wanted, top, room, needed)
 }
 
@@ -180,14 +183,11 @@ pub fn check_call(
 pub fn count_free(sheet: &[u8]) -> usize
     ensures { result ≡ frees (tab (length sheet.now / record_bytes) (rule_at sheet.now)) }
 {
-    let size = sheet.len() / limits::RECORD;
     let mut k: usize = 0;
-    let mut i: usize = 0;
-    while i < size {
+    for i in 0..sheet.len() / limits::RECORD {
         if is_free(sheet, i) {
             k += 1;
         }
-        i += 1;
     }
     k
 }

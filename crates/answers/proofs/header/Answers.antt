@@ -6,4 +6,6 @@ use Rattle.answers.proofs.header.Goals as goal
 
 pub returns : goal.returns
 unfolding flatten head_bytes
-returns c = headed c.args.a _ c.numbers-v.ensures
+returns c =
+    rw (c.two_bytes-code.ensures, c.two_bytes-place.ensures, c.two_bytes-g.ensures, c.two_bytes-m.ensures, c.two_bytes-d.ensures)
+    (headed c.args.a _ c.numbers.ensures)

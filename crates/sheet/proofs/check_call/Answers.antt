@@ -1,13 +1,14 @@
-use borrow.Author.Tests.{not-true, not-false}
+-- The sheet's refusal is the call's; past it the word's is.
+use Rattle.std.proofs.Common.{refl}
+use Rattle.std.proofs.lemmas.Result.{err_from_is_err_and}
+use Rattle.meaning.proofs.Results.{refusal_stops}
 use Rattle.sheet.proofs.Calls.{call_sheet, call_word}
-use mathlib.Core.Path.{ap}
-use mathlib.Core.Bool.{not}
 use Rattle.sheet.proofs.check_call.Goals as goal
 
-pub returns-then-not-is_done : goal.returns-then-not-is_done
-returns-then-not-is_done c = call_sheet _ _ _ _ _ _ _ _ _ c.check_sheet-a.ensures _ c.is_done.ensures (not-true _ (ap not c.if-not-is_done.true))
+pub returns-in_err-check_sheet : goal.returns-in_err-check_sheet
+returns-in_err-check_sheet c =
+    let p = err_from_is_err_and c.from_residual.result c.from_residual.ensures.1 in
+    rw (p.1, p.2) (call_sheet _ _ _ _ _ _ _ _ _ c.in_err-check_sheet.ensures _ refl (refusal_stops _))
 
 pub returns : goal.returns
-returns c =
-    let test = c in
-    call_word _ _ _ _ _ _ _ _ _ test.check_sheet-a.ensures _ test.is_done.ensures (not-false _ (ap not test.if-not-is_done.false)) _ c.check_word.ensures
+returns c = call_word _ _ _ _ _ _ _ _ _ c.in_ok-check_sheet.ensures _ refl refl _ c.check_word.ensures

@@ -1,9 +1,7 @@
-use Prim.Native.Nat.{◌-◌, ◌≤◌}
+use Rattle.std.proofs.Common.{◌≤◌, ◌/◌, length}
+use Rattle.meaning.specs.Limits.{record_bytes}
 use Rattle.sheet.proofs.Records.{Counted}
 use Rattle.sheet.proofs.count_free.Given as goal
 
 abbrev pub invariant-loop-i : goal.invariant-loop-i
-invariant-loop-i l = (l.i ≤ l.size) × (l.k ≤ l.i) × Counted l.sheet l.size l.i l.i l.k
-
-abbrev pub decreases-loop-i : goal.decreases-loop-i
-decreases-loop-i l = l.size - l.i
+invariant-loop-i l = (l.k ≤ l.i) × Counted l.sheet (length l.sheet / record_bytes) l.i l.k

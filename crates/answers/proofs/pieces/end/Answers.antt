@@ -17,5 +17,5 @@ overflow_mul-result c =
     let A = c.args in
     omega (arith, ends-within A.size A.len A.i c.if-size-eq0.false c.if-len-size.false)
 
-pub returns : goal.returns
-returns c = ends-first _ _ _ c.if-size-eq0.false c.if-len-size.false
+pub returns-else-len-size : goal.returns-else-len-size
+returns-else-len-size c = ends-first _ _ _ c.if-size-eq0.false c.if-len-size.false

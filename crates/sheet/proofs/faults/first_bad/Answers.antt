@@ -1,61 +1,45 @@
-use mathlib.Core.Path.{sym, ◌∙◌}
-use native.Mathlib.Omega.{arith}
-use borrow.Author.Tests.{not-true, not-false}
+use Rattle.std.proofs.Common.{◌≡◌, ◌+◌, ◌-◌, ◌*◌, ℕ, sym, ap, ◌∙◌, arith, drop}
+use Rattle.bits.specs.Vectors.{zeros}
 use Rattle.meaning.specs.Limits.{record_bytes, mask_bytes}
-use Rattle.sheet.proofs.Records.{stops, goes_on_lem, ends, head_bad, mask_bad, both-fine, none_named, mask_end}
-use mathlib.Core.Path.{ap}
-use mathlib.Core.Bool.{not}
+use Rattle.meaning.specs.Sheet.{mask}
+use Rattle.sheet.proofs.Joining.{word_there}
+use Rattle.sheet.proofs.Records.{word_passed, word_stops, mask_end, head_bad, mask_bad, both-fine, stops, goes_on_lem, ends}
 use Rattle.sheet.proofs.faults.first_bad.Goals as goal
 
-pub records-init : goal.records-init
-records-init c = (omega arith, omega arith)
-
-pub loop-j-init : goal.loop-j-init
-loop-j-init c = (sym c.head_fine.ensures ∙ not-false _ (ap not c.if-not-head_fine.false), rw c.barred_from-j.ensures)
-
-pub passed_from-passed-requires : goal.passed_from-passed-requires
+pub loop-k-preserved : goal.loop-k-preserved
 unfolding record_bytes mask_bytes
-passed_from-passed-requires c = omega arith
+loop-k-preserved c =
+    let from = c.barred_from-from.result in
+    let there = word_there _ _ _ _ c.loop-k-test.true (omega arith) c.mask_word.ensures in
+    let e : 64 * (c.loop-k.k + 1) + (from - 64 * (c.loop-k.k + 1)) ≡ 64 * c.loop-k.k + 64 = omega arith in (
+      c.loop-k.invariant.0,
+      ap (λ (x : ℕ). zeros (drop x (mask c.args.sheet.now c.records.i))) e
+          ∙ sym (word_passed _ _ _ _ _ there (omega arith) (omega arith) (rw c.saturating_sub.ensures at c.if-mask_word-saturating_sub-ne0.false))
+          ∙ c.loop-k.invariant.1,
+    )
 
-pub overflow_add-j : goal.overflow_add-j
-unfolding mask_bytes
-overflow_add-j c = omega (arith, c.passed_from-passed.ensures.within)
-
-pub loop-j-smaller : goal.loop-j-smaller
-unfolding mask_bytes
-loop-j-smaller c = omega arith
-
-pub loop-j-preserved : goal.loop-j-preserved
-unfolding mask_bytes
-loop-j-preserved c =
-    let call = c in
-    let turn = call in
-    let inv = turn.loop-j.invariant in
-    let passed = call.passed_from-passed.ensures in
-    (inv.0, sym (none_named _ _ _ _ passed.within passed.unnamed) ∙ inv.1)
-
-pub records-preserved : goal.records-preserved
-unfolding mask_bytes
-records-preserved c =
-    let inv = c.loop-j.invariant in
-    let turn = c in
-    (omega arith, goes_on_lem _ _ _ turn.records-test.true (both-fine _ _ inv.0 (sym inv.1 ∙ mask_end _ _ c.loop-j.j c.loop-j-test.false)) turn.records.invariant.1)
-
-pub returns-after-records : goal.returns-after-records
+pub returns-then-mask_word-saturating_sub-ne0 : goal.returns-then-mask_word-saturating_sub-ne0
 unfolding record_bytes mask_bytes
-returns-after-records c = ends _ _ _ c.records-test.false c.records.invariant.1
+returns-then-mask_word-saturating_sub-ne0 c =
+    let there = word_there _ _ _ _ c.loop-k-test.true (omega arith) c.mask_word.ensures in
+    let named = word_stops _ _ _ _ _ there (omega arith) (omega arith) (rw c.saturating_sub.ensures at c.if-mask_word-saturating_sub-ne0.true) in
+    (stops _ _ _ (omega arith) (mask_bad _ _ (rw c.barred_from-from.ensures at (sym c.loop-k.invariant.1 ∙ named))) c.records.invariant.1, omega arith)
 
 pub returns-then-not-head_fine : goal.returns-then-not-head_fine
 unfolding record_bytes mask_bytes
 returns-then-not-head_fine c =
-    let turn = c in
-    stops _ _ _ turn.records-test.true (head_bad _ _ (sym c.head_fine.ensures ∙ not-true _ (ap not c.if-not-head_fine.true))) turn.records.invariant.1
+    (stops _ _ _ (omega arith) (head_bad _ _ (sym c.head_fine.ensures ∙ c.if-not-head_fine.true)) c.records.invariant.1, omega arith)
 
-pub returns-then-passed-eq0 : goal.returns-then-passed-eq0
+pub records-preserved : goal.records-preserved
 unfolding record_bytes mask_bytes
-returns-then-passed-eq0 c =
-    let call = c in
-    let bit = call in
-    let inv = bit.loop-j.invariant in
-    let turn = bit in
-    stops _ _ _ turn.records-test.true (mask_bad _ _ (sym inv.1 ∙ call.passed_from-passed.ensures.stopped c.if-passed-eq0.true)) turn.records.invariant.1
+records-preserved c =
+    let none = rw c.barred_from-from.ensures at (sym c.loop-k.invariant.1 ∙ mask_end _ _ _ (omega arith)) in (
+      c.loop-k.invariant.0,
+      goes_on_lem _ _ _ (omega arith) (both-fine _ _ (sym c.head_fine.ensures ∙ c.if-not-head_fine.false) none) c.records.invariant.1,
+    )
+
+pub returns-after-records : goal.returns-after-records
+unfolding record_bytes mask_bytes
+returns-after-records c =
+    let e = ends _ _ c.records.i c.records-test.false c.records.invariant.1 in
+    rw c.records.invariant.0 (omega (arith, e))
