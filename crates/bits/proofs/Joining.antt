@@ -1,24 +1,28 @@
 -- Words of bytes.
---     one_byte, side_by_side     what bytes side by side hold
---     too_short, too_far, inside     the word that `eight` reads
+--     word_of_bytes              what the word of some bytes holds
+--     out_of, inside             the word that `eight` reads
 --     eight_there                of bytes that lie within the slice it has the bits
 --     eight_same                 there is one such word
 use mathlib.Core.Path.{◌≡◌, refl, sym, ap, ◌∙◌}
 use mathlib.Core.Logic.{⊎_elim}
-use Prim.Native.Nat.{ℕ, ◌+◌, ◌*◌, ◌-◌, ◌/◌, ◌%◌, ◌^◌, ◌≤◌, ◌<◌}
+use Prim.Native.Nat.{ℕ, zero, suc, ◌+◌, ◌*◌, ◌-◌, ◌/◌, ◌%◌, ◌^◌, ◌≤◌, ◌<◌}
 use native.Mathlib.Omega.{arith}
-use native.Mathlib.Nat.{add_comm}
+use native.Mathlib.Nat.{add_comm, zero-add, pow-suc}
+use lib.Pow.{pow-add}
+use Rattle.std.specs.Int.{w64, from_le_bytes, byte_worth, sum_through}
 use mathlib.Core.Bool.{Bool, true, false, true≢false}
 use mathlib.Core.List.{List}
-use lib.ListN.{length, get_or}
+use lib.ListN.{length, take, drop, get_or}
 use borrow.Author.Tests.{lt-leb, le-leb}
 use Rattle.bits.specs.Words.{has_bit}
 use Rattle.bits.specs.Rows.{lies}
+use Rattle.bits.proofs.Parts.{from}
 use Rattle.bits.specs.Bytes.{Holds, EightOf}
 use Rattle.bits.proofs.Tests.{le_or_lt}
+use Rattle.bits.proofs.RowLaws.{get_or_part}
 use Rattle.bits.proofs.WordBits.{low_bit, high_bit, join_lt, same_bits}
 
-pub one_byte : (s : List ℕ) (at : ℕ) → get_or s at 0 < 256 → Holds 1 s at (get_or s at 0)
+one_byte : (s : List ℕ) (at : ℕ) → get_or s at 0 < 256 → Holds 1 s at (get_or s at 0)
 one_byte s at h = record {
   bits = λ j l.
       let p : at ≡ at + j / 8 = omega arith in
@@ -27,39 +31,54 @@ one_byte s at h = record {
   small = h;
 }
 
-pub side_by_side : (n : ℕ) (s : List ℕ) (at hi lo : ℕ) → Holds n s (at + n) hi → Holds n s at lo → Holds (n + n) s at (hi * 2 ^ (8 * n) + lo)
-side_by_side n s at hi lo h l = record {
-  bits = λ j b.
-      ⊎_elim
-      (λ (p : 8 * n ≤ j).
-      let t : ℕ = j - 8 * n in
-      let e : j ≡ 8 * n + t = omega arith in
-      let q : at + n + t / 8 ≡ at + j / 8 = omega arith in
-      let r : t % 8 ≡ j % 8 = omega arith in
-      ap (has_bit (hi * 2 ^ (8 * n) + lo)) e ∙ high_bit (8 * n) t lo hi l.small ∙ h.bits t (omega arith)
-      ∙ ap (λ (x : ℕ). has_bit (get_or s x 0) (t % 8)) q ∙ ap (has_bit (get_or s (at + j / 8) 0)) r)
-      (λ (p : j < 8 * n). low_bit (8 * n) j lo hi l.small p ∙ l.bits j p)
-      (le_or_lt (8 * n) j);
-  small =
-      let e : 8 * n + 8 * n ≡ 8 * (n + n) = omega arith in
-      rw (add_comm (hi * 2 ^ (8 * n)) lo, ← e) (join_lt (8 * n) (8 * n) lo hi l.small h.small);
-}
+pow_byte : (n : ℕ) → 256 ^ n ≡ 2 ^ (8 * n)
+pow_byte zero = refl
+pow_byte (suc n) = let e : 8 * suc n ≡ 8 * n + 8 = omega arith in rw (pow-suc 256 n, e, pow-add 2 (8 * n) 8, pow_byte n) refl
+
+-- a byte more, above the others
+next_byte : (n : ℕ) (s : List ℕ) (r b : ℕ) → Holds n s 0 r → b ≡ get_or s n 0 → b < 256 → Holds (suc n) s 0 (r + b * 256 ^ n)
+next_byte n s r b h e l =
+    rw (pow_byte n) (record {
+      bits = λ j k.
+          ⊎_elim
+          (λ (p : 8 * n ≤ j).
+          let t : ℕ = j - 8 * n in
+          let i : j ≡ 8 * n + t = omega arith in
+          let q : n ≡ 0 + j / 8 = omega arith in
+          let u : t ≡ j % 8 = omega arith in
+          ap (λ (x : ℕ). has_bit x j) (add_comm r (b * 2 ^ (8 * n))) ∙ ap (has_bit (b * 2 ^ (8 * n) + r)) i ∙ high_bit (8 * n) t r b h.small
+          ∙ ap (λ (x : ℕ). has_bit x t) e ∙ ap (λ (x : ℕ). has_bit (get_or s x 0) t) q ∙ ap (has_bit (get_or s (0 + j / 8) 0)) u)
+          (λ (p : j < 8 * n). ap (λ (x : ℕ). has_bit x j) (add_comm r (b * 2 ^ (8 * n))) ∙ low_bit (8 * n) j r b h.small p ∙ h.bits j p)
+          (le_or_lt (8 * n) j);
+      small = let i : 8 * suc n ≡ 8 * n + 8 = omega arith in rw i (join_lt (8 * n) 8 r b h.small l);
+    })
+
+-- the word of all bytes up to n
+word_of_bytes : (s : List ℕ) (n : ℕ) → ((i : ℕ) → i ≤ n → get_or s i 0 < 256) → Holds (suc n) s 0 (sum_through (λ i. byte_worth i (get_or s i 0)) n)
+word_of_bytes s zero h = one_byte s 0 (h 0 (omega arith))
+word_of_bytes s (suc n) h =
+    next_byte (suc n) s (sum_through (λ i. byte_worth i (get_or s i 0)) n) (get_or s (suc n) 0) (word_of_bytes s n (λ i l. h i (omega arith))) refl (h (suc n) (omega arith))
 
 -- ---- what `eight` answers
 
-out_of : (s : List ℕ) (at : ℕ) → length s < at + 8 → EightOf s at 0
+pub out_of : (s : List ℕ) (at : ℕ) → length s < at + 8 → EightOf s at 0
 unfolding lies
 out_of s at h = record { there = λ e. absurd (true≢false (sym e ∙ lt-leb (at + 8) (length s) h)); missing = λ e. refl }
 
-pub too_short : (s : List ℕ) (at : ℕ) → length s < 8 → EightOf s at 0
-too_short s at h = out_of s at (omega arith)
-
-pub too_far : (s : List ℕ) (at : ℕ) → length s - 8 < at → EightOf s at 0
-too_far s at h = out_of s at (omega arith)
-
-pub inside : (s : List ℕ) (at r : ℕ) → at + 8 ≤ length s → Holds 8 s at r → EightOf s at r
+pub inside : (s : List ℕ) (at r : ℕ) (word : List ℕ) → ((i : ℕ) → get_or s i 0 < 256) → r ≡ from_le_bytes w64 word → at + 8 ≤ length s → word ≡ take 8 (take (length s - at) (drop at s)) → EightOf s at r
 unfolding lies
-inside s at r l h = record { there = λ e. h; missing = λ e. absurd (true≢false (sym (le-leb (at + 8) (length s) l) ∙ e)) }
+inside s at r word h m l e =
+    let here : (i : ℕ) → i < 8 → get_or word i 0 ≡ get_or s (at + i) 0 =
+    λ i k. ap (λ (t : List ℕ). get_or t i 0) (e ∙ ap (take 8) (from s at)) ∙ get_or_part s at 8 i k in
+    let w = word_of_bytes word 7 (λ i k. rw (here i (omega arith)) (h (at + i))) in
+    record {
+      there = λ _. record {
+        bits = λ j k. let q : j / 8 < 8 = omega arith in
+            ap (λ (x : ℕ). has_bit x j) m ∙ w.bits j k ∙ ap (λ (x : ℕ). has_bit x (j % 8)) (rw (zero-add (j / 8)) (here (j / 8) q));
+        small = rw m w.small;
+      };
+      missing = λ t. absurd (true≢false (sym (le-leb (at + 8) (length s) l) ∙ t));
+    }
 
 pub eight_there : (s : List ℕ) (at r : ℕ) → at + 8 ≤ length s → EightOf s at r → Holds 8 s at r
 unfolding lies

@@ -1,6 +1,6 @@
 -- Xor: XOR of bits and vectors. Tests: tests over lists, tables, searches. Rising: the order of vectors. Words: machine words. WordBits: their bits one by one.
 -- RowXor: the XOR of rows, and their bits. RowLaws: the rows of a list of words. RowsWritten: a row that was written.
--- Writing: what the loops of the functions on rows keep. Filling: what a loop keeps that fills a list.
+-- Writing: what the functions on rows leave. Filling: what a loop keeps that fills a list.
 -- Parts: a block by its halves, and the part of a slice from a place on. Joining: words of eight bytes. Records: records of one length, end to end. Copied: what a copy leaves.
 pub mod Xor
 pub mod Tests

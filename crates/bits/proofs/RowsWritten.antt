@@ -8,15 +8,16 @@ use mathlib.Core.Logic.{inl, inr}
 use Prim.Native.Nat.{ℕ, zero, suc, ◌+◌, ◌-◌, ◌*◌, ◌≤◌, ◌<◌}
 use native.Mathlib.Omega.{arith}
 use native.Mathlib.Nat.{suc_inj, suc-add}
-use mathlib.Core.Bool.{true, false}
+use mathlib.Core.Bool.{Bool, true, false, ◌&&◌, ◌||◌}
 use mathlib.Core.List.{List, [], ◌∷◌, ◌++◌, append_assoc, append-nil}
 use lib.ListN.{length, take, drop, set, length-append, take-append-drop, drop_of_length-le}
 use lib.Seq.{paste, length-paste, drop-paste, length-take-le, drop-drop, take_all, take_at, drop_at, set-append_left, take-set-lt}
 use lib.Dec.{leb}
-use borrow.Author.Tests.{le-leb}
+use borrow.Author.Tests.{le-leb, leb-true}
 use borrow.Rule.Slice.PartMut.{put_mid}
 use Rattle.bits.specs.Rows.{Row, ◌⊻◌, nought_row, part, row, rows, lies, apart, zeroed, copied, added, copied_within, added_within}
-use Rattle.bits.proofs.Tests.{and-false, or_true, tab_snoc, tab_below}
+use Rattle.bits.specs.Vectors.{pick}
+use Rattle.bits.proofs.Tests.{and_l, and_r, or_true, tab_snoc, tab_below}
 use Rattle.bits.proofs.RowLaws.{Apart, part_front, row_room, rows_apart}
 
 pub put-behind : (p l x : List ℕ) (a k : ℕ) → length p ≡ a → put_mid a k (p ++ l) x ≡ p ++ (x ++ drop k l)
@@ -76,64 +77,75 @@ paste_all d x w ld lx =
 
 -- ---- what the functions on rows do
 
-pub lies-true : (n a w : ℕ) → a + w ≤ n → lies n a w ≡ true
+lies-true : (n a w : ℕ) → a + w ≤ n → lies n a w ≡ true
 unfolding lies
 lies-true n a w h = le-leb (a + w) n h
 
-pub apart-true : (n a b w : ℕ) → a + w ≤ n → b + w ≤ n → Apart a b w → apart n a b w ≡ true
+lies-fits : (n a w : ℕ) → lies n a w ≡ true → a + w ≤ n
+unfolding lies
+lies-fits n a w h = leb-true (a + w) n h
+
+apart-true : (n a b w : ℕ) → a + w ≤ n → b + w ≤ n → Apart a b w → apart n a b w ≡ true
 unfolding apart
 apart-true n a b w p q (inl r) = rw (lies-true n a w p, lies-true n b w q, le-leb (a + w) b r)
 apart-true n a b w p q (inr r) = rw (lies-true n a w p, lies-true n b w q, le-leb (b + w) a r) (or_true (leb (a + w) b))
+
+apart-fits : (n a b w : ℕ) → apart n a b w ≡ true → (a + w ≤ n) × (b + w ≤ n) × Apart a b w
+unfolding apart
+apart-fits n a b w h =
+    let p = and_l (lies n a w && lies n b w) _ h in
+    (lies-fits n a w (and_l _ _ p), lies-fits n b w (and_r (lies n a w) _ p), go (leb (a + w) b) refl (and_r (lies n a w && lies n b w) _ h))
+  where
+    go : (s : Bool) → leb (a + w) b ≡ s → s || leb (b + w) a ≡ true → Apart a b w
+    go true r k = inl (leb-true (a + w) b r)
+    go false r k = inr (leb-true (b + w) a k)
+
+-- a test that fails
+kept : (t : Bool) (x d : List ℕ) → (t ≡ true → ⊥) → d ≡ pick t x d
+kept true x d h = absurd (h refl)
+kept false x d h = refl
 
 pub zeroed-fits : (d : List ℕ) (to w : ℕ) → to + w ≤ length d → zeroed d to w ≡ paste d to (nought_row w) w
 unfolding zeroed
 zeroed-fits d to w h = rw (lies-true (length d) to w h)
 
-pub zeroed-out : (d : List ℕ) (to w : ℕ) → lies (length d) to w ≡ false → zeroed d to w ≡ d
+pub zeroed-out : (d : List ℕ) (to w : ℕ) → (to + w ≤ length d → ⊥) → d ≡ zeroed d to w
 unfolding zeroed
-zeroed-out d to w h = rw h
+zeroed-out d to w h = kept _ _ _ (λ e. h (lies-fits _ _ _ e))
 
 module _ (d : List ℕ) (to : ℕ) (s : List ℕ) (from w : ℕ) where
   pub copied-fits : to + w ≤ length d → from + w ≤ length s → copied d to s from w ≡ paste d to (part w from s) w
   unfolding copied
   copied-fits h k = rw (lies-true (length d) to w h, lies-true (length s) from w k)
 
-  pub copied-out : lies (length d) to w ≡ false → copied d to s from w ≡ d
+  pub copied-out : (to + w ≤ length d → from + w ≤ length s → ⊥) → d ≡ copied d to s from w
   unfolding copied
-  copied-out h = rw h
-
-  pub copied-out_of : lies (length s) from w ≡ false → copied d to s from w ≡ d
-  unfolding copied
-  copied-out_of h = rw (and-false (lies (length d) to w) _ h)
+  copied-out h = kept _ _ _ (λ e. h (lies-fits _ _ _ (and_l _ _ e)) (lies-fits _ _ _ (and_r (lies (length d) to w) _ e)))
 
   pub added-fits : to + w ≤ length d → from + w ≤ length s → added d to s from w ≡ paste d to (part w to d ⊻ part w from s) w
   unfolding added
   added-fits h k = rw (lies-true (length d) to w h, lies-true (length s) from w k)
 
-  pub added_out : lies (length d) to w ≡ false → added d to s from w ≡ d
+  pub added-out : (to + w ≤ length d → from + w ≤ length s → ⊥) → d ≡ added d to s from w
   unfolding added
-  added_out h = rw h
-
-  pub added-out_of : lies (length s) from w ≡ false → added d to s from w ≡ d
-  unfolding added
-  added-out_of h = rw (and-false (lies (length d) to w) _ h)
+  added-out h = kept _ _ _ (λ e. h (lies-fits _ _ _ (and_l _ _ e)) (lies-fits _ _ _ (and_r (lies (length d) to w) _ e)))
 
 module _ (v : List ℕ) (to from w : ℕ) where
   pub copied_within-fits : to + w ≤ length v → from + w ≤ length v → Apart to from w → copied_within v to from w ≡ paste v to (part w from v) w
   unfolding copied_within
   copied_within-fits h k q = rw (apart-true (length v) to from w h k q)
 
-  pub copied_within-out : apart (length v) to from w ≡ false → copied_within v to from w ≡ v
+  pub copied_within-out : ((to + w ≤ length v) × (from + w ≤ length v) × Apart to from w → ⊥) → v ≡ copied_within v to from w
   unfolding copied_within
-  copied_within-out h = rw h
+  copied_within-out h = kept _ _ _ (λ e. h (apart-fits _ _ _ _ e))
 
   pub added_within-fits : to + w ≤ length v → from + w ≤ length v → Apart to from w → added_within v to from w ≡ paste v to (part w to v ⊻ part w from v) w
   unfolding added_within
   added_within-fits h k q = rw (apart-true (length v) to from w h k q)
 
-  pub added_within-out : apart (length v) to from w ≡ false → added_within v to from w ≡ v
+  pub added_within-out : ((to + w ≤ length v) × (from + w ≤ length v) × Apart to from w → ⊥) → v ≡ added_within v to from w
   unfolding added_within
-  added_within-out h = rw h
+  added_within-out h = kept _ _ _ (λ e. h (apart-fits _ _ _ _ e))
 
 -- ---- row j
 

@@ -1,126 +1,95 @@
--- What the loops of the functions on rows keep: a row written word by word.
---     Pasted d₀ to x w d k                      d is d₀ with the first k of the w words of x written from `to` on
---     pasted_none, pasted_next, pasted_all      no word, one word more, all words
---     still, elsewhere                          words that are not written yet, and words of a row apart
---     lies-.., apart-..                         the tests
-use mathlib.Core.Path.{◌≡◌, refl, sym, ap, ◌∙◌}
+-- What the functions on rows leave, from what their calls of the library leave.
+--     cut                            the w words from a place on, as a range
+--     xor_next, xor_all              a row added word by word: one word more; all words
+--     zeroed-by, copied-by, added-by, copied_within-by     a row written as a part of its list
+--     added-high, added-low          a row added to one behind it, and to one before it
+use Rattle.std.proofs.Common.{◌≡◌, ℕ, ◌+◌, ◌-◌, ◌<◌, ◌≤◌, List, ◌++◌, suc, length, take, drop, set, get_or, replicate, refl, sym, ap, ap₂, ◌∙◌, arith, add-one, zero-add, append-nil, append_assoc}
+use lib.Seq.{paste-suc, paste, take_all, drop-drop, drop-cons, get_or_at, length-take-le, take-append-le, drop-append-le}
+use lib.ListN.{length-replicate, take-append-drop, drop_of_length-le}
+use lib.Bits.{bit_xor}
 use mathlib.Core.Logic.{inl, inr}
-use Prim.Native.Nat.{ℕ, ◌+◌, ◌-◌, ◌≤◌, ◌<◌}
-use native.Mathlib.Omega.{arith}
-use native.Mathlib.Numerals.{add-one}
-use mathlib.Core.Bool.{Bool, true, false, ◌&&◌, ◌||◌, not}
-use mathlib.Core.List.{List, ◌++◌}
-use lib.ListN.{length, take, drop, set, get_or, length-set, get_or-append}
-use lib.Seq.{paste, paste-zero, paste-suc, length_paste_head, length-take-le, get_or-append-add, get_or-drop, get_or-take}
-use lib.Dec.{leb}
-use borrow.Author.Tests.{leb-true, le-leb, lt-leb, not-true, not-false}
-use Rattle.bits.specs.Rows.{Row, part, lies, apart}
-use Rattle.bits.proofs.Tests.{and_l, and_r, and-false, bool_ext}
-use Rattle.bits.proofs.RowLaws.{Apart, get_or_part}
-use Rattle.bits.proofs.RowsWritten.{lies-true, apart-true}
+use borrow.Rule.Slice.PartMut.{put_mid}
+use Rattle.std.proofs.lemmas.Slice.{put_mid-paste}
+use Rattle.bits.specs.Rows.{Row, ◌⊻◌, part, zeroed, copied, added, copied_within, added_within}
+use Rattle.bits.proofs.RowLaws.{Apart, part_front, length_part}
+use Rattle.bits.proofs.RowXor.{length-⊻, get_or-⊻}
+use Rattle.bits.proofs.RowsWritten.{zeroed-fits, copied-fits, added-fits, copied_within-fits, added_within-fits}
 
-pub record Pasted (d₀ : List ℕ) (to : ℕ) (x : Row) (w : ℕ) (d : List ℕ) (k : ℕ) : Type 0 where
-  pub some : k ≤ w
-  pub room : to + w ≤ length d₀
-  pub wide : length x ≡ w
-  pub size : length d ≡ length d₀
-  pub is : d ≡ paste d₀ to x k
+pub cut : (l : List ℕ) (a w : ℕ) → take (a + w - a) (drop a l) ≡ part w a l
+cut l a w = let e : a + w - a ≡ w = omega arith in rw e refl
 
-pub pasted_none : (d : List ℕ) (to : ℕ) (x : Row) (w : ℕ) → to + w ≤ length d → length x ≡ w → Pasted d to x w d 0
-pasted_none d to x w h l = record { some = omega arith; room = h; wide = l; size = refl; is = paste-zero d to x }
+-- ---- a row added word by word
 
-module _ {d₀ : List ℕ} {to : ℕ} {x : Row} {w : ℕ} {d : List ℕ} {k : ℕ} (p : Pasted d₀ to x w d k) where
-  pub pasted_next : (z : ℕ) → k < w → z ≡ get_or x k 0 → Pasted d₀ to x w (set d (to + k) z) (k + 1)
-  pasted_next z h q =
-      let r = p.room in
-      let l = p.wide in
-      record {
-        some = omega arith;
-        room = p.room;
-        wide = p.wide;
-        size = length-set d (to + k) z ∙ p.size;
-        is = rw (q, p.is, add-one k) (paste-suc d₀ to x k 0 (omega arith) (omega arith));
-      }
+module _ (x₀ y x : List ℕ) (k : ℕ) (e : length y ≡ length x₀) (h : x ≡ take k (x₀ ⊻ y) ++ drop k x₀) where
+  pub xor_next : k < length x₀ → set x k (bit_xor (get_or x k 0) (get_or y k 0)) ≡ take (k + 1) (x₀ ⊻ y) ++ drop (k + 1) x₀
+  xor_next g =
+      let l : length (x₀ ⊻ y) ≡ length x₀ = length-⊻ x₀ y (length x₀) refl e in
+      let f : length (take k (x₀ ⊻ y)) ≡ k = length-take-le k (x₀ ⊻ y) (omega arith) in
+      let here : get_or (take k (x₀ ⊻ y) ++ drop k x₀) k 0 ≡ get_or x₀ k 0 =
+      rw (drop-cons x₀ k 0) (get_or_at (take k (x₀ ⊻ y)) (get_or x₀ k 0) (drop (suc k) x₀) 0 k f) in
+      ap (λ (z : ℕ). set x k z) (ap (λ (z : ℕ). bit_xor z (get_or y k 0)) (ap (λ (t : List ℕ). get_or t k 0) h ∙ here) ∙ sym (get_or-⊻ x₀ y k))
+      ∙ ap (λ (t : List ℕ). set t k (get_or (x₀ ⊻ y) k 0)) h
+      ∙ rw add-one (simp zero-add at (paste-suc x₀ 0 (x₀ ⊻ y) k 0 (omega arith) (omega arith)))
 
-  pub pasted_all : w ≤ k → d ≡ paste d₀ to x w
-  pasted_all h = let s = p.some in let e : k ≡ w = omega arith in p.is ∙ ap (paste d₀ to x) e
+  pub xor_all : length x₀ ≤ k → x ≡ x₀ ⊻ y
+  xor_all g =
+      let l : length (x₀ ⊻ y) ≡ length x₀ = length-⊻ x₀ y (length x₀) refl e in
+      h ∙ rw (take_all k (x₀ ⊻ y) (omega arith), drop_of_length-le x₀ {i = k} g, append-nil (x₀ ⊻ y)) refl
 
-  after : (i : ℕ) → to + k ≤ i → get_or d i 0 ≡ get_or d₀ i 0
-  after i h =
-      let s = p.some in
-      let r = p.room in
-      let l = p.wide in
-      let f : List ℕ = take to d₀ ++ take k x in
-      let e : length f ≡ to + k = length_paste_head d₀ to x k (omega arith) (omega arith) in
-      let q : length f + (i - (to + k)) ≡ i = omega arith in
-      let t : to + k + (i - (to + k)) ≡ i = omega arith in
-      ap (λ (l : List ℕ). get_or l i 0) p.is
-      ∙ ap (λ (n : ℕ). get_or (f ++ drop (to + k) d₀) n 0) (sym q) ∙ get_or-append-add f (drop (to + k) d₀) (i - (to + k)) 0
-      ∙ get_or-drop (to + k) d₀ (i - (to + k)) 0 ∙ ap (λ (n : ℕ). get_or d₀ n 0) t
+-- ---- a row written as a part of its list
 
-  earlier : (i : ℕ) → i < to → get_or d i 0 ≡ get_or d₀ i 0
-  earlier i h =
-      let s = p.some in
-      let r = p.room in
-      let l = p.wide in
-      let e : length (take to d₀ ++ take k x) ≡ to + k = length_paste_head d₀ to x k (omega arith) (omega arith) in
-      let f : length (take to d₀) ≡ to = length-take-le to d₀ (omega arith) in
-      ap (λ (l : List ℕ). get_or l i 0) p.is ∙ get_or-append (take to d₀ ++ take k x) (drop (to + k) d₀) 0 i (omega arith)
-      ∙ get_or-append (take to d₀) (take k x) 0 i (omega arith) ∙ get_or-take to d₀ i 0 h
+module _ (d y : List ℕ) (to w : ℕ) (h : to + w ≤ length d) where
+  written : (x : Row) → y ≡ x → length x ≡ w → put_mid to (to + w - to) d y ≡ paste d to x w
+  written x e l = put_mid-paste to (to + w - to) d y x w e (omega arith) (sym l)
 
-  pub still : k < w → get_or d (to + k) 0 ≡ get_or (part w to d₀) k 0
-  still h = after (to + k) (omega arith) ∙ sym (get_or_part d₀ to w k h)
+  pub zeroed-by : y ≡ replicate (length (take (to + w - to) (drop to d))) 0 → put_mid to (to + w - to) d y ≡ zeroed d to w
+  zeroed-by e =
+      let l : length (take (to + w - to) (drop to d)) ≡ w = ap length (cut d to w) ∙ length_part d to w h in
+      written (replicate w 0) (e ∙ ap (λ (n : ℕ). replicate n 0) l) (length-replicate w 0) ∙ sym (zeroed-fits d to w h)
 
-  pub elsewhere : (from : ℕ) → k < w → Apart to from w → get_or d (from + k) 0 ≡ get_or (part w from d₀) k 0
-  elsewhere from h (inl q) = after (from + k) (omega arith) ∙ sym (get_or_part d₀ from w k h)
-  elsewhere from h (inr q) = earlier (from + k) (omega arith) ∙ sym (get_or_part d₀ from w k h)
+  module _ (s : List ℕ) (from : ℕ) (g : from + w ≤ length s) where
+    pub copied-by : y ≡ take (from + w - from) (drop from s) → put_mid to (to + w - to) d y ≡ copied d to s from w
+    copied-by e = written (part w from s) (e ∙ cut s from w) (length_part s from w g) ∙ sym (copied-fits d to s from w h g)
 
--- ---- the tests
+    pub added-by : y ≡ take (to + w - to) (drop to d) ⊻ take (from + w - from) (drop from s) → put_mid to (to + w - to) d y ≡ added d to s from w
+    added-by e =
+        written (part w to d ⊻ part w from s) (e ∙ ap₂ {C = List ℕ} ◌⊻◌ (cut d to w) (cut s from w))
+        (length-⊻ _ _ w (length_part d to w h) (length_part s from w g)) ∙ sym (added-fits d to s from w h g)
 
-module _ (n at w : ℕ) where
-  pub lies-from : at ≤ n → leb w (n - at) ≡ lies n at w
-  unfolding lies
-  lies-from h = bool_ext (leb w (n - at)) (lies n at w)
-      (λ t. let q = leb-true w (n - at) t in le-leb (at + w) n (omega arith)) (λ t. let q = leb-true (at + w) n t in le-leb w (n - at) (omega arith))
+-- ---- rows of one list
 
-  pub lies_past : n < at → leb at n ≡ lies n at w
-  unfolding lies
-  lies_past h = lt-leb at n h ∙ sym (lt-leb (at + w) n (omega arith))
+module _ (v x : List ℕ) (to from w : ℕ) (p : to + w ≤ length v) (q : from + w ≤ length v) where
+  pub copied_within-by : Apart to from w → x ≡ paste v to (drop from v) (from + w - from) → x ≡ copied_within v to from w
+  copied_within-by a h =
+      let e : from + w - from ≡ w = omega arith in
+      let l : length (part w from v) ≡ w = length_part v from w q in
+      h ∙ rw (e, copied_within-fits v to from w p q a, take_all w (part w from v) (omega arith)) refl
 
-  -- of a call's result
-  module _ {t : Bool} (e : t ≡ lies n at w) where
-    pub lies-room : not t ≡ false → at + w ≤ n
-    unfolding lies
-    lies-room h = leb-true (at + w) n (sym e ∙ not-false t h)
+  -- l and r are the parts of the list before and from the row behind the other
+  module _ (l r : List ℕ) (m : ℕ) (fits : m ≤ length v) (el : l ≡ take m v) (er : r ≡ drop m v) where
+    whole : l ++ r ≡ v
+    whole = rw (el, er) (take-append-drop m v)
 
-    pub lies-not : not t ≡ true → lies n at w ≡ false
-    lies-not h = sym e ∙ not-true t h
+    long : length l ≡ m
+    long = ap length el ∙ length-take-le m v fits
 
-module _ (n a b w : ℕ) where
-  pub apart-first : lies n a w ≡ false → false ≡ apart n a b w
-  unfolding apart
-  apart-first h = rw h
+    before : (a : ℕ) → a + w ≤ m → take (a + w - a) (drop a l) ≡ part w a v
+    before a h = let n = long in cut l a w ∙ sym (part_front l r a w (omega arith)) ∙ ap (part w a) whole
 
-  pub apart_second : lies n b w ≡ false → false ≡ apart n a b w
-  unfolding apart
-  apart_second h = rw (and-false (lies n a w) _ h)
+    pub added-high : m ≡ to → from + w ≤ to → x ≡ take w r ⊻ take (from + w - from) (drop from l) → l ++ (x ++ drop w r) ≡ added_within v to from w
+    added-high e a h =
+        let X = part w to v ⊻ part w from v in
+        let t : x ≡ X = h ∙ ap₂ {C = List ℕ} ◌⊻◌ (ap (take w) er ∙ ap (λ (n : ℕ). part w n v) e) (before from (omega arith)) in
+        let n : length X ≡ w = length-⊻ _ _ w (length_part v to w p) (length_part v from w q) in
+        rw (el, er, t, e, drop-drop w to v, added_within-fits v to from w p q (inr a), append_assoc (take to v) (take w X) (drop (to + w) v), take_all w X (omega arith)) refl
 
-  module _ (p : a + w ≤ n) (q : b + w ≤ n) where
-    pub apart-left : a + w ≤ b → leb (a + w) b ≡ apart n a b w
-    apart-left h = le-leb (a + w) b h ∙ sym (apart-true n a b w p q (inl h))
-
-    pub apart-right : b < a + w → leb (b + w) a ≡ apart n a b w
-    unfolding apart
-    apart-right h = rw (lies-true n a w p, lies-true n b w q, lt-leb (a + w) b h)
-
-  -- of a call's result
-  pub apart-room : {t : Bool} → t ≡ apart n a b w → not t ≡ false → (a + w ≤ n) × (b + w ≤ n) × Apart a b w
-  unfolding apart lies
-  apart-room {t} e h =
-      let q = sym e ∙ not-false t h in
-      let p = and_l (lies n a w && lies n b w) _ q in
-      (leb-true (a + w) n (and_l _ _ p), leb-true (b + w) n (and_r (lies n a w) _ p), go (leb (a + w) b) refl (and_r (lies n a w && lies n b w) _ q))
-    where
-      go : (s : Bool) → leb (a + w) b ≡ s → s || leb (b + w) a ≡ true → Apart a b w
-      go true r k = inl (leb-true (a + w) b r)
-      go false r k = inr (leb-true (b + w) a k)
+    pub added-low : m ≡ from → to + w ≤ from → x ≡ take (to + w - to) (drop to l) ⊻ take w r → put_mid to (to + w - to) l x ++ r ≡ added_within v to from w
+    added-low e a h =
+        let X = part w to v ⊻ part w from v in
+        let t : x ≡ X = h ∙ ap₂ {C = List ℕ} ◌⊻◌ (before to (omega arith)) (ap (take w) er ∙ ap (λ (n : ℕ). part w n v) e) in
+        let n : length X ≡ w = length-⊻ _ _ w (length_part v to w p) (length_part v from w q) in
+        let k = long in
+        ap (λ (s : List ℕ). s ++ r) (put_mid-paste to (to + w - to) l x X w t (omega arith) (sym n))
+        ∙ append_assoc (take to l ++ take w X) (drop (to + w) l) r
+        ∙ ap₂ {C = List ℕ} (λ (s u : List ℕ). s ++ take w X ++ u) (sym (take-append-le to l r (omega arith)) ∙ ap (take to) whole) (sym (drop-append-le (to + w) l r (omega arith)) ∙ ap (drop (to + w)) whole)
+        ∙ sym (added_within-fits v to from w p q (inl a))

@@ -1,39 +1,38 @@
-// Rows of words in lent slices: w words from a place on. Every function is total. Where a row does not lie within its
+// Rows of words in lent slices: w words from a place on. Every public function is total. Where a row does not lie within its
 // slice, or two rows of one slice overlap, nothing is changed.
-ghost use Rattle.std.specs.Prelude.{◌≡◌};
-ghost use Rattle.bits.specs.Rows.{lies, apart, zeroed, copied, added, copied_within, added_within};
+ghost use Rattle.std.specs.Prelude.{◌≡◌, ◌+◌, ◌≤◌, ◌⊎◌, ◌↔◌, IsTrue, length};
+ghost use Rattle.bits.specs.Rows.{zeroed, copied, added, copied_within, added_within, ◌⊻◌};
 
 // Whether the w words from `at` on lie within n words.
 fn lies(n: usize, at: usize, w: usize) -> bool
-    ensures { result ≡ lies n at w }
+    ensures { IsTrue result ↔ (at + w ≤ n) }
 {
     at <= n && w <= n - at
 }
 
 // Whether two rows lie within n words and have none in common.
 fn apart(n: usize, a: usize, b: usize, w: usize) -> bool
-    ensures { result ≡ apart n a b w }
+    ensures { IsTrue result ↔ ((a + w ≤ n) × (b + w ≤ n) × ((a + w ≤ b) ⊎ (b + w ≤ a))) }
 {
-    if !lies(n, a, w) {
-        return false;
+    lies(n, a, w) && lies(n, b, w) && (a + w <= b || b + w <= a)
+}
+
+// The row y is added, by XOR, to the row x, which is as long. By index: after a zip of `iter_mut` a proof knows no element.
+fn xor(x: &mut [u64], y: &[u64])
+    requires { length y.now ≡ length x.old }
+    ensures { x.new ≡ x.old ⊻ y.now }
+{
+    for (k, word) in x.iter_mut().enumerate() {
+        *word ^= y[k];
     }
-    if !lies(n, b, w) {
-        return false;
-    }
-    a + w <= b || b + w <= a
 }
 
 // The w words of `d` from `to` on become 0.
 pub fn zero(d: &mut [u64], to: usize, w: usize)
     ensures { d.new ≡ zeroed d.old to w }
 {
-    if !lies(d.len(), to, w) {
-        return;
-    }
-    let mut k = 0;
-    while k < w {
-        d[to + k] = 0;
-        k += 1;
+    if lies(d.len(), to, w) {
+        d[to..to + w].fill(0);
     }
 }
 
@@ -41,16 +40,8 @@ pub fn zero(d: &mut [u64], to: usize, w: usize)
 pub fn copy(d: &mut [u64], to: usize, s: &[u64], from: usize, w: usize)
     ensures { d.new ≡ copied d.old to s.now from w }
 {
-    if !lies(d.len(), to, w) {
-        return;
-    }
-    if !lies(s.len(), from, w) {
-        return;
-    }
-    let mut k = 0;
-    while k < w {
-        d[to + k] = s[from + k];
-        k += 1;
+    if lies(d.len(), to, w) && lies(s.len(), from, w) {
+        d[to..to + w].copy_from_slice(&s[from..from + w]);
     }
 }
 
@@ -58,16 +49,8 @@ pub fn copy(d: &mut [u64], to: usize, s: &[u64], from: usize, w: usize)
 pub fn add(d: &mut [u64], to: usize, s: &[u64], from: usize, w: usize)
     ensures { d.new ≡ added d.old to s.now from w }
 {
-    if !lies(d.len(), to, w) {
-        return;
-    }
-    if !lies(s.len(), from, w) {
-        return;
-    }
-    let mut k = 0;
-    while k < w {
-        d[to + k] = d[to + k] ^ s[from + k];
-        k += 1;
+    if lies(d.len(), to, w) && lies(s.len(), from, w) {
+        xor(&mut d[to..to + w], &s[from..from + w]);
     }
 }
 
@@ -75,13 +58,8 @@ pub fn add(d: &mut [u64], to: usize, s: &[u64], from: usize, w: usize)
 pub fn copy_within(v: &mut [u64], to: usize, from: usize, w: usize)
     ensures { v.new ≡ copied_within v.old to from w }
 {
-    if !apart(v.len(), to, from, w) {
-        return;
-    }
-    let mut k = 0;
-    while k < w {
-        v[to + k] = v[from + k];
-        k += 1;
+    if apart(v.len(), to, from, w) {
+        v.copy_within(from..from + w, to);
     }
 }
 
@@ -92,9 +70,11 @@ pub fn add_within(v: &mut [u64], to: usize, from: usize, w: usize)
     if !apart(v.len(), to, from, w) {
         return;
     }
-    let mut k = 0;
-    while k < w {
-        v[to + k] = v[to + k] ^ v[from + k];
-        k += 1;
+    if from < to {
+        let (low, high) = v.split_at_mut(to);
+        xor(&mut high[..w], &low[from..from + w]);
+    } else {
+        let (low, high) = v.split_at_mut(from);
+        xor(&mut low[to..to + w], &high[..w]);
     }
 }

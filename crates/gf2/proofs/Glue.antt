@@ -4,24 +4,24 @@
 --     steps_turn, all-steps  a turn of `run`, and its end
 --     misfit, fit_done       the two answers
 use mathlib.Core.Path.{◌≡◌, refl, sym, ap, ap₂, ◌∙◌}
-use Prim.Native.Nat.{ℕ, zero, suc, ◌+◌, ◌-◌, ◌*◌, ◌/◌, ◌%◌, ◌^◌, ◌≤◌, ◌<◌}
+use Prim.Native.Nat.{ℕ, zero, suc, ◌+◌, ◌-◌, ◌*◌, ◌/◌, ◌%◌, ◌≤◌, ◌<◌}
 use native.Mathlib.Omega.{arith}
 use native.Mathlib.Numerals.{add-one}
-use borrow.Author.Tests.{eq-eqb, ne_eqb, lt-ltb, le-ltb}
+use native.Mathlib.Nat.{add-zero, div-eq_of_eq-mul_left}
 use mathlib.Core.Bool.{Bool, true, false}
-use mathlib.Core.List.{List, [], ◌∷◌, ◌++◌, map, append_assoc, map-append}
+use mathlib.Core.List.{List, [], ◌∷◌, ◌++◌, map, flatten, append_assoc, map-append}
 use lib.ListN.{length, take, drop, set, get_or, length-append, length-drop, length-map, take-append-drop}
-use lib.Seq.{take_at, drop_at, drop-drop, set_at, take-append-le, drop-append-le, length-take-le}
-use lib.Count.{count_leading_zeros}
+use lib.Seq.{take_at, drop_at, set_at, take-append-le, drop-append-le, length-take-le, get_or-take}
 use Rattle.bits.specs.Vectors.{pick}
-use Rattle.bits.specs.Rows.{Row, ◌⊻◌, has_at, part, row, rows, at}
-use Rattle.gf2.specs.Solve.{clear_at, clear, top, lead, Sys, sys, pass, step, steps, solve, fits, done, solved}
-use Rattle.gf2.specs.Inner.{used, over}
-use Rattle.gf2.specs.declared.Outcome.TheVariants.{Misfit, Rank}
+use Rattle.bits.specs.Rows.{Row, ◌⊻◌, has_at, part, row, rows, rows_of, at}
+use Rattle.gf2.specs.Solve.{clear_at, clear, lead, Sys, sys, pass, step, steps, solve, fits, Done, done, solved}
+use Rattle.gf2.specs.Inner.{over}
+use Rattle.std.specs.Prelude.{Some, None}
 use Rattle.bits.proofs.RowXor.{length-⊻, word_of, place_of}
 use Rattle.bits.proofs.Tests.{length-tab, tab-at}
-use Rattle.bits.proofs.RowLaws.{length-row, rows-suc, rows_append, flatten-whole}
-use Rattle.gf2.proofs.Highest.{lead-none, lead-some}
+use Rattle.bits.proofs.RowLaws.{length-row, rows-suc, rows_append, flatten-whole, whole-rows}
+use Rattle.gf2.proofs.Calls.{shapes}
+use Rattle.gf2.proofs.Reduced.{zero-words}
 
 -- ---- rows swept
 
@@ -70,9 +70,6 @@ rows-over w (suc n) f l k h =
 
 -- ---- a list of m rows, cut at row i
 
-pub cut : (m i w : ℕ) → i < m → i * w + w + (m - i - 1) * w ≡ m * w
-cut m i w h = let n = m - i - 1 in let e : m ≡ i + suc n = omega arith in rw e (let z : i + suc n - i - 1 ≡ n = omega arith in rw z (omega arith))
-
 -- the rows before row i swept, then those after it
 module _ (l : List ℕ) (m i w : ℕ) (hl : length l ≡ m * w) (hi : i < m) (f : Row → Row) (kf : Keeps w f) where
   abbrev front : List ℕ
@@ -82,27 +79,25 @@ module _ (l : List ℕ) (m i w : ℕ) (hl : length l ≡ m * w) (hi : i < m) (f 
   x = part w (i * w) l
 
   abbrev end : List ℕ
-  end = drop (i * w + w) l
+  end = drop w (drop (i * w) l)
 
-  abbrev first : List ℕ
-  first = take 0 l ++ over w i f (drop 0 l)
+  abbrev swept : List ℕ
+  swept = over w i f front ++ (x ++ over w (m - i - 1) f end)
 
-  abbrev second : List ℕ
-  second = take (i * w + w) first ++ over w (m - i - 1) f (drop (i * w + w) first)
+  cut : i * w + w + (m - i - 1) * w ≡ m * w
+  cut = let n = m - i - 1 in let e : m ≡ i + suc n = omega arith in rw e (let z : i + suc n - i - 1 ≡ n = omega arith in rw z (omega arith))
 
   len_before : length front ≡ i * w
-  len_before = let c = cut m i w hi in length-take-le (i * w) l (omega arith)
+  len_before = let c = cut in length-take-le (i * w) l (omega arith)
 
   len_after : length end ≡ (m - i - 1) * w
-  len_after = let c = cut m i w hi in length-drop (i * w + w) l ∙ omega arith
+  len_after = let c = cut in length-drop w (drop (i * w) l) ∙ simp length-drop (omega arith)
 
   len_row : length x ≡ w
   len_row = length-row w m l hl i hi
 
   whole : l ≡ front ++ (x ++ end)
-  whole =
-      let d : drop (i * w) l ≡ x ++ end = sym (ap (λ (r : List ℕ). x ++ r) (sym (drop-drop w (i * w) l)) ∙ take-append-drop w (drop (i * w) l)) in
-      sym (take-append-drop (i * w) l) ∙ ap (λ (r : List ℕ). front ++ r) d
+  whole = sym (ap (λ (r : List ℕ). front ++ r) (take-append-drop w (drop (i * w) l)) ∙ take-append-drop (i * w) l)
 
   rows_cut : (p q : List ℕ) → length p ≡ i * w → rows w m (p ++ (x ++ q)) ≡ rows w i p ++ x ∷ rows w (m - i - 1) q
   rows_cut p q h =
@@ -111,63 +106,85 @@ module _ (l : List ℕ) (m i w : ℕ) (hl : length l ≡ m * w) (hi : i < m) (f 
       let f : rows w (suc n) (x ++ q) ≡ x ∷ rows w n q = rows-suc w n (x ++ q) ∙ ap₂ (λ r t. r ∷ rows w n t) (take_at x q w len_row) (drop_at x q w len_row) in
       ap (λ (n : ℕ). rows w n (p ++ (x ++ q))) e ∙ rows_append w i (suc n) p (x ++ q) h ∙ ap (λ (r : List Row). rows w i p ++ r) f
 
-  len_swept : length (over w i f front) ≡ i * w
-  len_swept = length_over w i f front kf len_before
+  len_front : length (over w i f front) ≡ i * w
+  len_front = length_over w i f front kf len_before
 
-  first-is : first ≡ over w i f front ++ (x ++ end)
-  first-is = ap (over w i f) whole ∙ over_append w i f front (x ++ end) len_before
+  len_swept : length swept ≡ m * w
+  len_swept =
+      let a = len_front in
+      let b = len_row in
+      let c = length_over w (m - i - 1) f end kf len_after in
+      let d = cut in
+      length-append (over w i f front) (x ++ over w (m - i - 1) f end) ∙ ap (λ (n : ℕ). length (over w i f front) + n) (length-append x (over w (m - i - 1) f end)) ∙ omega arith
 
-  first-row : take w (drop (i * w) first) ≡ x
-  first-row = rw (first-is, drop_at (over w i f front) (x ++ end) (i * w) len_swept) (take_at x end w len_row)
-
-  len_head : length (over w i f front ++ x) ≡ i * w + w
-  len_head = length-append (over w i f front) x ∙ ap₂ ◌+◌ len_swept len_row
-
-  second_is : second ≡ over w i f front ++ (x ++ over w (m - i - 1) f end)
-  second_is =
-      let e : first ≡ over w i f front ++ x ++ end = first-is ∙ sym (append_assoc (over w i f front) x end) in
-      rw (e, take_at (over w i f front ++ x) end (i * w + w) len_head, drop_at (over w i f front ++ x) end (i * w + w) len_head)
-      (append_assoc (over w i f front) x (over w (m - i - 1) f end))
-
-  second_row : take w (drop (i * w) second) ≡ x
-  second_row = rw (second_is, drop_at (over w i f front) (x ++ over w (m - i - 1) f end) (i * w) len_swept) (take_at x (over w (m - i - 1) f end) w len_row)
-
-  second_rows : rows w m second ≡ set (map f (rows w m l)) i x
-  second_rows =
+  swept_rows : rows w m swept ≡ set (map f (rows w m l)) i x
+  swept_rows =
       let given : rows w m l ≡ rows w i front ++ x ∷ rows w (m - i - 1) end = ap (rows w m) whole ∙ rows_cut front end len_before in
-      ap (rows w m) second_is ∙ rows_cut (over w i f front) (over w (m - i - 1) f end) len_swept
+      rows_cut (over w i f front) (over w (m - i - 1) f end) len_front
       ∙ ap₂ (λ (a b : List Row). a ++ x ∷ b) (rows-over w i f front kf len_before) (rows-over w (m - i - 1) f end kf len_after)
       ∙ sym (set_at (map f (rows w i front)) (f x) (map f (rows w (m - i - 1) end)) x i (length-map (rows w i front) f ∙ length-tab i (row w front)))
       ∙ ap (λ (r : List Row). set r i x) (sym (ap (map f) given ∙ map-append f (rows w i front) (x ∷ rows w (m - i - 1) end)))
 
--- ---- a step of the model
+-- the rows of as many words
+rows_are : (w m : ℕ) (l : List ℕ) → 0 < w → length l ≡ m * w → rows_of w l ≡ rows w m l
+rows_are w m l p h = ap (λ (n : ℕ). rows w n l) (div-eq_of_eq-mul_left p h)
 
-pub step-none : (l r : List ℕ) (m q i c w n : ℕ) → length l ≡ m * w → i < m → c ≤ w → top (used l (i * w)) c ≡ 0
-    → sys (rows w m l) (rows w q r) n ≡ step c i (sys (rows w m l) (rows w q r) n)
-unfolding pass
-step-none l r m q i c w n hl hi cw e =
-    rw (tab-at m (row w l) i [] hi, lead-none l (i * w) c w cw e) refl
+-- ---- a step of the model: equation i is `row`, `before` and `after` are the others
 
-pub step-some : (l l₁ l₂ r r₁ : List ℕ) (m q i c w n k j : ℕ) → length l ≡ m * w → length r ≡ q * w → i < m → c ≤ w
-    → top (used l (i * w)) c ≡ k → (k ≡ 0 → ⊥) → get_or l (i * w + k - 1) 0 < 2 ^ 64 → j ≡ 63 - count_leading_zeros 64 (get_or l (i * w + k - 1) 0)
-    → l₁ ≡ take 0 l ++ over w i (clear_at (k - 1) j (part w (i * w) l)) (drop 0 l)
-    → l₂ ≡ take (i * w + w) l₁ ++ over w (m - i - 1) (clear_at (k - 1) j (part w (i * w) l₁)) (drop (i * w + w) l₁)
-    → r₁ ≡ over w q (clear_at (k - 1) j (part w (i * w) l₂)) r
-    → sys (rows w m l₂) (rows w q r₁) (n + 1) ≡ step c i (sys (rows w m l) (rows w q r) n)
-unfolding pass
-step-some l l₁ l₂ r r₁ m q i c w n k j hl hr hi cw e nz fit hj e₁ e₂ e₃ =
-    let x : Row = part w (i * w) l in
-    let f : Row → Row = clear_at (k - 1) j x in
-    let kf : Keeps w f = clear-keeps w (k - 1) j x (length-row w m l hl i hi) in
-    let (jl, le) = lead-some l (i * w) c w cw k j e nz fit hj in
-    let g₁ : part w (i * w) l₁ ≡ x = ap (λ (y : List ℕ). part w (i * w) y) e₁ ∙ first-row l m i w hl hi f kf in
-    let s₂ : l₂ ≡ second l m i w hl hi f kf = e₂ ∙ ap₂ (λ (y : List ℕ) (z : Row). take (i * w + w) y ++ over w (m - i - 1) (clear_at (k - 1) j z) (drop (i * w + w) y)) e₁ g₁ in
-    let g₂ : part w (i * w) l₂ ≡ x = ap (λ (y : List ℕ). part w (i * w) y) s₂ ∙ second_row l m i w hl hi f kf in
-    let a : rows w m l₂ ≡ set (map f (rows w m l)) i x = ap (rows w m) s₂ ∙ second_rows l m i w hl hi f kf in
-    let b : rows w q r₁ ≡ map f (rows w q r) = ap (rows w q) (e₃ ∙ ap (λ (z : Row). over w q (clear_at (k - 1) j z) r) g₂) ∙ rows-over w q f r kf hr in
-    let ff : f ≡ clear (64 * (k - 1) + j) x = ap₂ (λ (y z : ℕ). clear_at y z x) (sym (word_of (k - 1) j jl)) (sym (place_of (k - 1) j jl)) in
-    rw (tab-at m (row w l) i [] hi, le, tab-at m (row w l) i [] hi)
-    (ap₂ (λ (y z : List Row). sys y z (n + 1)) (a ∙ ap (λ (g : Row → Row). set (map g (rows w m l)) i x) ff) (b ∙ ap (λ (g : Row → Row). map g (rows w q r)) ff))
+-- the first c words of a row
+pub seen : (y : Row) (c w : ℕ) → c ≤ w → length y ≡ w → (t : ℕ) → t < c → (t < length (take c y)) × (get_or y t 0 ≡ get_or (take c y) t 0)
+seen y c w h e t k =
+    let n : length (take c y) ≡ c = length-take-le c y (omega arith) in
+    (omega arith, sym (get_or-take c y t 0 k))
+
+module _ (l r before others y after : List ℕ) (i c w : ℕ) (hl : length l % w ≡ 0) (hr : length r % w ≡ 0) (hi : i < length l / w) (cw : c ≤ w) (hw : 0 < w)
+    (eb : before ≡ take (i * w) l) (eo : others ≡ drop (i * w) l) (er : y ≡ take w others) (ea : after ≡ drop w others) where
+  abbrev m : ℕ
+  m = length l / w
+
+  given : length l ≡ m * w
+  given = whole-rows (length l) w hl
+
+  y_is : y ≡ part w (i * w) l
+  y_is = er ∙ ap (take w) eo
+
+  len_y : length y ≡ w
+  len_y = ap length y_is ∙ length-row w m l given i hi
+
+  at_i : at (rows_of w l) i ≡ y
+  at_i = tab-at m (row w l) i [] hi ∙ sym y_is
+
+  pub step-none : (n : ℕ) → ((t : ℕ) → t < length (take c y) → get_or (take c y) t 0 ≡ 0)
+      → sys (rows_of w (before ++ (y ++ after))) (rows_of w r) (n + 0) ≡ step c i (sys (rows_of w l) (rows_of w r) n)
+  unfolding pass
+  step-none n z =
+      let e : before ++ (y ++ after) ≡ l =
+      ap₂ {C = List ℕ} ◌++◌ eb (ap₂ {C = List ℕ} ◌++◌ er ea ∙ take-append-drop w others ∙ eo) ∙ take-append-drop (i * w) l in
+      let o : lead c y ≡ 0 = zero-words c y (λ t h. let s = seen y c w cw len_y t h in s.1 ∙ z t s.0) in
+      rw (e, add-zero n, at_i, o) refl
+
+  pub step-some : (b a q : List ℕ) (k j n : ℕ) → lead c y ≡ suc (64 * k + j) → j < 64
+      → b ≡ over (length y) (length before / length y) (clear_at k j y) before
+      → a ≡ over (length y) (length after / length y) (clear_at k j y) after
+      → q ≡ over (length y) (length r / length y) (clear_at k j y) r
+      → sys (rows_of w (b ++ (y ++ a))) (rows_of w q) (n + 1) ≡ step c i (sys (rows_of w l) (rows_of w r) n)
+  unfolding pass
+  step-some b a q k j n le jl e₁ e₂ e₃ =
+      let f : Row → Row = clear_at k j y in
+      let kf : Keeps w f = clear-keeps w k j y len_y in
+      let ge : length r ≡ length r / w * w = whole-rows (length r) w hr in
+      let fb : b ≡ over w i f (take (i * w) l) = e₁ ∙ rw (len_y, eb, div-eq_of_eq-mul_left hw (len_before l m i w given hi f kf)) refl in
+      let fa : a ≡ over w (m - i - 1) f (drop w (drop (i * w) l)) = e₂ ∙ rw (len_y, ea, eo, div-eq_of_eq-mul_left hw (len_after l m i w given hi f kf)) refl in
+      let fq : q ≡ over w (length r / w) f r = e₃ ∙ rw len_y refl in
+      let left : rows_of w (b ++ (y ++ a)) ≡ set (map f (rows_of w l)) i y =
+      ap (rows_of w) (ap₂ {C = List ℕ} ◌++◌ fb (ap₂ {C = List ℕ} ◌++◌ y_is fa))
+      ∙ rows_are w m (swept l m i w given hi f kf) hw (len_swept l m i w given hi f kf) ∙ swept_rows l m i w given hi f kf
+      ∙ ap (λ (z : Row). set (map f (rows_of w l)) i z) (sym y_is) in
+      let right : rows_of w q ≡ map f (rows_of w r) =
+      ap (rows_of w) fq ∙ rows_are w (length r / w) (over w (length r / w) f r) hw (length_over w (length r / w) f r kf ge) ∙ rows-over w (length r / w) f r kf ge in
+      let ff : f ≡ clear (64 * k + j) y = ap₂ (λ (u v : ℕ). clear_at u v y) (sym (word_of k j jl)) (sym (place_of k j jl)) in
+      rw (at_i, le, at_i)
+      (ap₂ (λ (u v : List Row). sys u v (n + 1)) (left ∙ ap (λ (g : Row → Row). set (map g (rows_of w l)) i y) ff) (right ∙ ap (λ (g : Row → Row). map g (rows_of w r)) ff))
 
 -- ---- all steps
 
@@ -177,47 +194,30 @@ steps_turn c m i s t h e =
     let p : m - i ≡ suc (m - (i + 1)) = omega arith in
     rw (p, e, add-one i) refl
 
-pub rank_step : (c i : ℕ) (s : Sys) → (step c i s).rank ≤ s.rank + 1
-unfolding pass
-rank_step c i s = go (lead c (at s.eqs i))
-  where
-    go : (b : ℕ) → (pass b i s).rank ≤ s.rank + 1
-    go zero = omega arith
-    go (suc b) = omega arith
-
-pub all-steps : (l r l₀ r₀ : List ℕ) (c w m q i n : ℕ) → i ≡ m
-    → steps c (m - i) i (sys (rows w m l) (rows w q r) n) ≡ steps c m 0 (sys (rows w m l₀) (rows w q r₀) 0)
-    → sys (rows w m l) (rows w q r) n ≡ solve c (rows w m l₀) (rows w q r₀)
+pub all-steps : (s : Sys) (l r : List ℕ) (c w i : ℕ) → length l / w ≤ i
+    → steps c (length l / w - i) i s ≡ steps c (length l / w) 0 (sys (rows_of w l) (rows_of w r) 0) → s ≡ solve c (rows_of w l) (rows_of w r)
 unfolding steps solve
-all-steps l r l₀ r₀ c w m q i n e h =
-    let z : m - i ≡ 0 = omega arith in
-    rw (length-tab m (row w l₀)) (rw z at h)
+all-steps s l r c w i e h =
+    let z : length l / w - i ≡ 0 = omega arith in
+    rw (length-tab (length l / w) (row w l)) (rw z at h)
 
 -- ---- what `eliminate` answers
 
-pub misfit : (c w : ℕ) (e r : List ℕ) → fits c w e r ≡ false → done e r Misfit ≡ solved c w e r
+pub misfit : (c w : ℕ) (e r : List ℕ) → ((w ≡ 0 → ⊥) → c ≤ w → length e % w ≡ 0 → length r % w ≡ 0 → ⊥) → done e r None ≡ solved c w e r
 unfolding solved
-misfit c w e r h = rw h refl
+misfit c w e r h = go (fits c w e r) refl
+  where
+    t : Done
+    t = let s = solve c (rows_of w e) (rows_of w r) in done (flatten s.eqs) (flatten s.rest) (Some s.rank)
 
-pub no_width : (c w : ℕ) (e r : List ℕ) → w ≡ 0 → fits c w e r ≡ false
-unfolding fits
-no_width c w e r h = rw (eq-eqb w 0 h) refl
+    go : (b : Bool) → fits c w e r ≡ b → done e r None ≡ pick b t (done e r None)
+    go true q = let s = shapes c w e r q in absurd (h s.0 s.1 s.2 s.3)
+    go false q = refl
 
-pub too_many : (c w : ℕ) (e r : List ℕ) → (w ≡ 0 → ⊥) → w < c → fits c w e r ≡ false
-unfolding fits
-too_many c w e r a h = rw (ne_eqb w 0 a, lt-ltb w c h) refl
-
-pub odd-eqs : (c w : ℕ) (e r : List ℕ) → (w ≡ 0 → ⊥) → c ≤ w → (length e % w ≡ 0 → ⊥) → fits c w e r ≡ false
-unfolding fits
-odd-eqs c w e r a b h = rw (ne_eqb w 0 a, le-ltb w c b, ne_eqb (length e % w) 0 h) refl
-
-pub odd-rest : (c w : ℕ) (e r : List ℕ) → (w ≡ 0 → ⊥) → c ≤ w → length e % w ≡ 0 → (length r % w ≡ 0 → ⊥) → fits c w e r ≡ false
-unfolding fits
-odd-rest c w e r a b d h = rw (ne_eqb w 0 a, le-ltb w c b, eq-eqb (length e % w) 0 d, ne_eqb (length r % w) 0 h) refl
-
-pub fit_done : (c w : ℕ) (e r e₁ r₁ : List ℕ) (n : ℕ) → fits c w e r ≡ true → length e₁ ≡ length e / w * w → length r₁ ≡ length r / w * w
-    → sys (rows w (length e / w) e₁) (rows w (length r / w) r₁) n ≡ solve c (rows w (length e / w) e) (rows w (length r / w) r)
-    → done e₁ r₁ (Rank n) ≡ solved c w e r
+pub fit_done : (c w : ℕ) (e r e₁ r₁ : List ℕ) (n : ℕ) → fits c w e r ≡ true → length e₁ ≡ length e → length r₁ ≡ length r
+    → sys (rows_of w e₁) (rows_of w r₁) n ≡ solve c (rows_of w e) (rows_of w r)
+    → done e₁ r₁ (Some n) ≡ solved c w e r
 unfolding solved
 fit_done c w e r e₁ r₁ n f he hr h =
-    rw (f, ← h, flatten-whole w (length e / w) e₁ he, flatten-whole w (length r / w) r₁ hr) refl
+    let s = shapes c w e r f in
+    rw (f, ← h, flatten-whole w (length e₁ / w) e₁ (whole-rows (length e₁) w (rw he s.2)), flatten-whole w (length r₁ / w) r₁ (whole-rows (length r₁) w (rw hr s.3))) refl

@@ -1,22 +1,24 @@
 -- What a turn of a sweep does to the list of words: rows swept one by one.
---     togo, Turn, turn-..           what is swept and what is to do; a turn of a sweep and what it keeps
---     apart-first, apart_next       the rows that are swept are apart from the one that is added
+--     togo, Turn                    what is swept and what is to do; a turn of a sweep
+--     row_in, added_row             where row i lies; a row added
+--     sweep_next, sweep_end         a turn of `sweep`, and its end
 use mathlib.Core.Path.{◌≡◌, refl, ap, ◌∙◌}
 use mathlib.Core.Logic.{◌⊎◌, inl, inr}
-use Prim.Native.Nat.{ℕ, zero, suc, ◌+◌, ◌-◌, ◌*◌, ◌≤◌, ◌<◌}
+use Prim.Native.Nat.{ℕ, zero, suc, ◌+◌, ◌-◌, ◌*◌, ◌/◌, ◌≤◌, ◌<◌}
 use native.Mathlib.Omega.{arith}
+use native.Mathlib.Nat.{div-mul-le_self}
 use mathlib.Core.List.{List, ◌++◌, append_assoc}
 use lib.ListN.{length, take, drop, get_or, take-append-drop}
-use lib.Seq.{paste, length-paste, take-paste, drop-paste, drop-drop, take-add, take_all}
+use lib.Seq.{paste, take-paste, drop-paste, drop-drop, take-add, take_all}
 use lib.Dec.{eqb}
 use borrow.Author.Tests.{eq-eqb, ne_eqb}
 use Rattle.bits.specs.Words.{bit_at}
-use Rattle.bits.specs.Rows.{Row, ◌⊻◌, has_at, part}
+use Rattle.bits.specs.Rows.{Row, ◌⊻◌, has_at, part, added}
 use Rattle.gf2.specs.Solve.{clear_at}
 use Rattle.gf2.specs.Inner.{over}
 use Rattle.bits.proofs.RowXor.{length-⊻}
-use Rattle.bits.proofs.RowLaws.{length_part, get_or_part, Apart, pred_mul}
-use Rattle.bits.proofs.RowsWritten.{paste-apart}
+use Rattle.bits.proofs.RowLaws.{length_part, get_or_part, row_fit}
+use Rattle.bits.proofs.RowsWritten.{added-fits}
 
 -- bit j of word k of the row at a
 has_at-part : (l : List ℕ) (a w k j : ℕ) → k < w → has_at k j (part w a l) ≡ eqb (bit_at (get_or l (a + k) 0) j) 1
@@ -56,34 +58,34 @@ sweep_miss l a w (suc n) f p e =
 abbrev pub Turn : List ℕ → List ℕ → Row → ℕ → ℕ → ℕ → ℕ → Type 0
 Turn l v e a w k j = ((bit_at (get_or l (a + k) 0) j ≡ 1) × (v ≡ paste l a (part w a l ⊻ e) w)) ⊎ ((bit_at (get_or l (a + k) 0) j ≡ 1 → ⊥) × (v ≡ l))
 
-pub turn_length : (l v : List ℕ) (e : Row) (a w k j : ℕ) → a + w ≤ length l → length e ≡ w → Turn l v e a w k j → length v ≡ length l
-turn_length l v e a w k j h m (inl t) =
-    let n : length (part w a l ⊻ e) ≡ w = length-⊻ (part w a l) e w (length_part l a w h) m in
-    ap length t.1 ∙ length-paste l a (part w a l ⊻ e) w h (omega arith)
-turn_length l v e a w k j h m (inr t) = ap length t.1
-
-pub turn_togo : (l v : List ℕ) (e : Row) (a w k j n : ℕ) → 0 < n → k < w → a + w ≤ length l → length e ≡ w → Turn l v e a w k j
+turn_togo : (l v : List ℕ) (e : Row) (a w k j n : ℕ) → 0 < n → k < w → a + w ≤ length l → length e ≡ w → Turn l v e a w k j
     → togo w (n - 1) (clear_at k j e) v (a + w) ≡ togo w n (clear_at k j e) l a
 turn_togo l v e a w k j n p hk h m (inl t) =
     sweep_hit l v (part w a l ⊻ e) a w n (clear_at k j e) p h (clear_hit l a w k j e hk t.0) (length-⊻ (part w a l) e w (length_part l a w h) m) t.1
 turn_togo l v e a w k j n p hk h m (inr t) =
     rw t.1 (sweep_miss l a w n (clear_at k j e) p (clear_miss l a w k j e hk t.0))
 
-pub turn_apart : (l v : List ℕ) (e : Row) (a w k j from : ℕ) → a + w ≤ length l → length e ≡ w → Apart a from w → Turn l v e a w k j
-    → part w from v ≡ part w from l
-turn_apart l v e a w k j from h m q (inl t) =
-    ap (λ (r : List ℕ). part w from r) t.1 ∙ paste-apart l (part w a l ⊻ e) a w h (length-⊻ (part w a l) e w (length_part l a w h) m) from q
-turn_apart l v e a w k j from h m q (inr t) = ap (λ (r : List ℕ). part w from r) t.1
-
--- the row that is swept, and those after it, are apart from a row that all are apart from
-pub apart-first : (a n w from : ℕ) → 0 < n → (a + n * w ≤ from) ⊎ (from + w ≤ a) → Apart a from w
-apart-first a n w from h (inl q) = let p = pred_mul n w h in inl (omega arith)
-apart-first a n w from h (inr q) = inr q
-
-pub apart_next : (a n w from : ℕ) → 0 < n → (a + n * w ≤ from) ⊎ (from + w ≤ a) → (a + w + (n - 1) * w ≤ from) ⊎ (from + w ≤ a + w)
-apart_next a n w from h (inl q) = let p = pred_mul n w h in inl (omega arith)
-apart_next a n w from h (inr q) = inr (omega arith)
-
 pub togo_none : (w n : ℕ) (f : Row → Row) (l : List ℕ) (a : ℕ) → n ≡ 0 → togo w n f l a ≡ l
 unfolding over
 togo_none w n f l a e = rw e (take-append-drop a l)
+
+-- row i of the whole rows of n words
+pub row_in : (n i w : ℕ) → i < n / w → i * w + w ≤ n
+row_in n i w h = let p = row_fit i (n / w) w h in let q = div-mul-le_self n w in omega arith
+
+-- a row added
+pub added_row : (l row : List ℕ) (a : ℕ) → a + length row ≤ length l → added l a row 0 (length row) ≡ paste l a (part (length row) a l ⊻ row) (length row)
+added_row l row a h =
+    added-fits l a row 0 (length row) h (omega arith) ∙ ap (λ (x : Row). paste l a (part (length row) a l ⊻ x) (length row)) (take_all (length row) row (omega arith))
+
+-- a turn of `sweep`, and its end: of n rows of l those from row i on are to do
+module _ (l row : List ℕ) (n i k j : ℕ) where
+  pub sweep_next : (v : List ℕ) → i < n → k < length row → i * length row + length row ≤ length l → Turn l v row (i * length row) (length row) k j
+      → togo (length row) (n - (i + 1)) (clear_at k j row) v ((i + 1) * length row) ≡ togo (length row) (n - i) (clear_at k j row) l (i * length row)
+  sweep_next v h q r t =
+      let a : n - (i + 1) ≡ n - i - 1 = omega arith in
+      let b : (i + 1) * length row ≡ i * length row + length row = omega arith in
+      rw (a, b) (turn_togo l v row (i * length row) (length row) k j (n - i) (omega arith) q r refl t)
+
+  pub sweep_end : n ≤ i → togo (length row) (n - i) (clear_at k j row) l (i * length row) ≡ l
+  sweep_end h = togo_none (length row) (n - i) (clear_at k j row) l (i * length row) (omega arith)

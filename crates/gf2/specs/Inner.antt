@@ -1,12 +1,14 @@
 -- What the contracts of the inner functions say, and no public one.
---     used l at t       whether word t from `at` on is not 0
+--     LastUsed x r      r is the place of the last word that is not 0, or None where all are 0
 --     over w n f l      f at each of the first n rows of w words
-use Rattle.std.specs.Prelude.{ℕ, zero, suc, ◌+◌, Bool, not, List, ◌++◌, take, drop, get_or, eqb}
+use Rattle.std.specs.Prelude.{◌≡◌, ◌≢◌, ℕ, zero, suc, ◌<◌, Option, MatchOption, List, ◌++◌, length, take, drop, slice_index, EachIndex}
 use Rattle.bits.specs.Rows.{Row}
 
--- whether word t from `at` on is not 0
-abbrev pub used : List ℕ → ℕ → ℕ → Bool
-used l at t = not (eqb (get_or l (at + t) 0) 0)
+-- the place of the last word that is not 0
+abbrev pub LastUsed : Row → Option ℕ → Type 0
+LastUsed x r =
+    MatchOption r (EachIndex x (λ t. slice_index x t ≡ 0))
+    (λ k. (k < length x) × (slice_index x k ≢ 0) × ((t : ℕ) → k < t → t < length x → slice_index x t ≡ 0))
 
 -- f at each of the first n rows of w words; the words after them stay
 unfoldable pub over : ℕ → ℕ → (Row → Row) → List ℕ → List ℕ

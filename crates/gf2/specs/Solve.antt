@@ -7,12 +7,10 @@
 --     solve c e r         every equation in turn
 --     fits c w e r        whether the words are whole rows with c words of coefficients
 --     Done, done, solved  all that a call leaves: its words and its answer
-use Rattle.std.specs.Prelude.{ℕ, zero, suc, ◌+◌, ◌*◌, ◌/◌, ◌%◌, Bool, ◌&&◌, not, length, set, ltb, eqb}
+use Rattle.std.specs.Prelude.{Option, Some, None, ℕ, zero, suc, ◌+◌, ◌*◌, ◌/◌, ◌%◌, Bool, ◌&&◌, not, length, set, ltb, eqb}
 use mathlib.Core.List.{List, map, flatten}
 use Rattle.bits.specs.Vectors.{pick}
 use Rattle.bits.specs.Rows.{Row, ◌⊻◌, has_at, has, rows_of, at}
-use Rattle.gf2.specs.declared.Outcome.{Outcome}
-use Rattle.gf2.specs.declared.Outcome.TheVariants.{Misfit, Rank}
 
 -- x, with e added if x has bit j of word k
 unfoldable pub clear_at : ℕ → ℕ → Row → Row → Row
@@ -67,18 +65,18 @@ solve c e r = steps c (length e) 0 (sys e r 0)
 pub record Done : Type 0 where
   pub eqs : List ℕ
   pub rest : List ℕ
-  pub out : Outcome
+  pub out : Option ℕ
 
-abbrev pub done : List ℕ → List ℕ → Outcome → Done
+abbrev pub done : List ℕ → List ℕ → Option ℕ → Done
 done e r o = record { eqs = e; rest = r; out = o }
 
 -- rows of at least one word, of which at most all are coefficients; nothing left over in either list
 unfoldable pub fits : ℕ → ℕ → List ℕ → List ℕ → Bool
 fits c w e r = not (eqb w 0) && not (ltb w c) && eqb (length e % w) 0 && eqb (length r % w) 0
 
--- the words of the reduced rows and the rank, or all as it was and a misfit
+-- the words of the reduced rows and the rank, or all as it was and no rank
 unfoldable pub solved : ℕ → ℕ → List ℕ → List ℕ → Done
 unfolding fits
 solved c w e r =
     let s = solve c (rows_of w e) (rows_of w r) in
-    pick (fits c w e r) (done (flatten s.eqs) (flatten s.rest) (Rank s.rank)) (done e r Misfit)
+    pick (fits c w e r) (done (flatten s.eqs) (flatten s.rest) (Some s.rank)) (done e r None)

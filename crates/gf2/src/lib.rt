@@ -11,55 +11,24 @@ ghost use Rattle.gf2.specs.System.{led};
 
 mod sweep;
 
-// What an elimination answers.
-#[derive(Clone, Copy)]
-pub enum Outcome {
-    // The lengths and widths do not fit; nothing was changed.
-    Misfit,
-    // How many equations have a pivot.
-    Rank(usize),
-}
-
 // Solves the equations in `eqs` as far as they go. Each in turn, the equation that still has a coefficient takes its
 // highest one, its pivot, out of every other equation and every row of `rest`, by adding itself to the rows that have it.
 // Afterwards a pivot stands in its own equation alone, and an equation with no pivot has no coefficient left.
 // `rest` holds rows to reduce that are no equations; it may be empty, and so may `eqs`.
-// Answers Rank with the number of pivots, or Misfit, and changes nothing, where w is 0, c is above w, or `eqs` or `rest`
+// Answers how many equations have a pivot, or None, and changes nothing, where w is 0, c is above w, or `eqs` or `rest`
 // is no whole number of rows.
-pub fn eliminate(eqs: &mut [u64], rest: &mut [u64], c: usize, w: usize) -> Outcome
+pub fn eliminate(eqs: &mut [u64], rest: &mut [u64], c: usize, w: usize) -> Option<usize>
     ensures { done eqs.new rest.new result ≡ solved c w eqs.old rest.old }
 {
-    if w == 0 {
-        return Outcome::Misfit;
+    if w == 0 || w < c || eqs.len() % w != 0 || rest.len() % w != 0 {
+        return None;
     }
-    if w < c {
-        return Outcome::Misfit;
-    }
-    if eqs.len() % w != 0 {
-        return Outcome::Misfit;
-    }
-    if rest.len() % w != 0 {
-        return Outcome::Misfit;
-    }
-    let m = eqs.len() / w;
-    let q = rest.len() / w;
-    let rank = sweep::run(eqs, m, rest, q, c, w);
-    Outcome::Rank(rank)
+    Some(sweep::run(eqs, rest, c, w))
 }
 
 // Whether a row has a coefficient: one of its first c words is not 0. Words behind its last count as 0.
 pub fn led(x: &[u64], c: usize) -> bool
     ensures { result ≡ led c x.now }
 {
-    let mut k = 0;
-    while k < c {
-        if x.len() <= k {
-            return false;
-        }
-        if x[k] != 0 {
-            return true;
-        }
-        k += 1;
-    }
-    false
+    x.iter().take(c).any(|word| *word != 0)
 }

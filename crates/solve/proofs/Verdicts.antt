@@ -2,7 +2,7 @@
 --     too_narrow, no_fit     the misfits
 --     verdict                by the law `solvable` of gf2: a system has a solution just where its reduced equations are consistent
 use mathlib.Core.Path.{◌≡◌, refl, sym, ap, ◌∙◌}
-use Prim.Native.Nat.{ℕ, ◌*◌, ◌/◌, ◌%◌, ◌≤◌, ◌<◌}
+use Prim.Native.Nat.{ℕ, ◌*◌, ◌%◌, ◌≤◌, ◌<◌}
 use native.Mathlib.Omega.{arith}
 use native.Mathlib.Nat.{zero-mod, zero-div}
 use mathlib.Core.Bool.{Bool, true, false, ◌&&◌}
@@ -15,8 +15,7 @@ use Rattle.bits.specs.Vectors.{pick}
 use Rattle.bits.specs.Rows.{Row, has, rows_of, at}
 use Rattle.gf2.specs.Solve.{solve, done, fits, solved}
 use Rattle.gf2.specs.System.{consistent}
-use Rattle.gf2.specs.declared.Outcome.{Outcome}
-use Rattle.gf2.specs.declared.Outcome.TheVariants.{Misfit as NoFit, Rank}
+use Rattle.std.specs.Prelude.{Option, Some, None}
 use Rattle.bits.proofs.RowXor.{has-⊻}
 use Rattle.gf2.proofs.Leads.{lead_le}
 use Rattle.gf2.proofs.Solutions.{solvable as solvable-is}
@@ -36,9 +35,9 @@ fits-is c w e h =
 no_rows : (w : ℕ) → rows_of w [] ≡ []
 no_rows w = rw (zero-div w) refl
 
-module _ (c w : ℕ) (e e₁ r₁ : List ℕ) (o : Outcome) (cw : c < w) (h : done e₁ r₁ o ≡ solved c w e []) where
+module _ (c w : ℕ) (e e₁ r₁ : List ℕ) (o : Option ℕ) (cw : c < w) (h : done e₁ r₁ o ≡ solved c w e []) where
   -- a misfit
-  pub no_fit : o ≡ NoFit → Misfit ≡ verdict_of c w e
+  pub no_fit : o ≡ None → Misfit ≡ verdict_of c w e
   unfolding verdict_of
   no_fit q = go (eqb (length e % w) 0) refl
     where
@@ -47,7 +46,7 @@ module _ (c w : ℕ) (e e₁ r₁ : List ℕ) (o : Outcome) (cw : c < w) (h : do
       go false m = rw (lt-ltb c w cw, m) refl
 
   -- a rank
-  module _ (n : ℕ) (q : o ≡ Rank n) where
+  module _ (n : ℕ) (q : o ≡ Some n) where
     rem : eqb (length e % w) 0 ≡ true
     rem = go (eqb (length e % w) 0) refl
       where
@@ -57,9 +56,6 @@ module _ (c w : ℕ) (e e₁ r₁ : List ℕ) (o : Outcome) (cw : c < w) (h : do
 
     F : Fitting c w e []
     F = fitting c w e [] (fits-is c w e cw ∙ rem)
-
-    pub kept_len : length e₁ ≡ length e → length e₁ ≡ length e₁ / w * w
-    kept_len k = let d = F.eqs_len in rw k d
 
     -- the rows at exit are those that the law speaks of
     exit : consistent c (has (64 * c)) (rows_of w e₁) ≡ solvable c w e

@@ -1,3 +1,2 @@
--- Outcomes: the number that stands for an outcome. Verdicts: whether a system has a solution.
-pub mod Outcomes
+-- Verdicts: whether a system has a solution.
 pub mod Verdicts

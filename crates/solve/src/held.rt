@@ -1,39 +1,11 @@
 // Systems that are held to what must be left of them, too: each check is proved from the promise of `eliminate`.
-ghost use Rattle.std.specs.Prelude.{◌≡◌, true};
+// One function for each system, since what must be left of each is a theorem of its own.
+ghost use Rattle.std.specs.Prelude.{◌≡◌};
 ghost use Rattle.gf2.specs.Solve.{done, solved};
-ghost use Rattle.solve.specs.Outcomes.{rank_of};
 
 use crate::print;
-use gf2::Outcome;
 
-// The rank, or 99 at a misfit.
-fn rank(o: Outcome) -> usize
-    ensures { result ≡ rank_of o }
-{
-    match o {
-        Outcome::Misfit => 99,
-        Outcome::Rank(k) => k,
-    }
-}
-
-// Whether a and b hold the same words.
-fn same(a: &[u64], b: &[u64]) -> bool
-    ensures { (result ≡ true → a.now ≡ b.now) × (a.now ≡ b.now → result ≡ true) }
-{
-    if a.len() != b.len() {
-        return false;
-    }
-    let mut i = 0;
-    while i < a.len() {
-        if a[i] != b[i] {
-            return false;
-        }
-        i += 1;
-    }
-    true
-}
-
-// Solves a system and checks all that is left of it: the words e and r, and the outcome o.
+// Solves a system and checks all that is left of it: the words e and r, and the rank.
 fn hold(
     rt: &HostRuntime,
     eqs: &mut [u64],
@@ -42,14 +14,14 @@ fn hold(
     w: usize,
     e: &[u64],
     r: &[u64],
-    o: Outcome,
+    rank: Option<usize>,
 )
-    requires { solved c w eqs.old rest.old ≡ done e.now r.now o }
+    requires { solved c w eqs.old rest.old ≡ done e.now r.now rank }
 {
     let got = print::solve(rt, eqs, rest, c, w);
-    check::expect(rank(got) == rank(o));
-    check::expect(same(eqs, e));
-    check::expect(same(rest, r));
+    check::expect(got == rank);
+    check::expect(*eqs == *e);
+    check::expect(*rest == *r);
 }
 
 // x0 + x1 = 1 and x1 = 1, with x0 to be reduced: x0 = 0 and x1 = 1.
@@ -58,7 +30,7 @@ pub fn unique(rt: &HostRuntime) {
     let mut rest = [1u64, 0];
     let e = [2u64, 1, 1, 0];
     let r = [0u64, 0];
-    hold(rt, &mut eqs, &mut rest, 1, 2, &e, &r, Outcome::Rank(2));
+    hold(rt, &mut eqs, &mut rest, 1, 2, &e, &r, Some(2));
 }
 
 // Two words of coefficients. x0 + x64 = 1 and x65 = 1: x64 is x0 + 1, and x0 is free.
@@ -67,7 +39,7 @@ pub fn ambiguous(rt: &HostRuntime) {
     let mut rest = [0u64, 1, 0, 0, 2, 0];
     let e = [1u64, 1, 1, 0, 2, 1];
     let r = [1u64, 0, 1, 0, 0, 1];
-    hold(rt, &mut eqs, &mut rest, 2, 3, &e, &r, Outcome::Rank(2));
+    hold(rt, &mut eqs, &mut rest, 2, 3, &e, &r, Some(2));
 }
 
 // x0 = 1 and x0 = 0: an equation with no coefficient has the constant 1.
@@ -76,7 +48,7 @@ pub fn inconsistent(rt: &HostRuntime) {
     let mut rest = [1u64, 0];
     let e = [1u64, 1, 0, 1];
     let r = [0u64, 1];
-    hold(rt, &mut eqs, &mut rest, 1, 2, &e, &r, Outcome::Rank(1));
+    hold(rt, &mut eqs, &mut rest, 1, 2, &e, &r, Some(1));
 }
 
 // Three words are no rows of two: nothing is changed.
@@ -85,7 +57,7 @@ pub fn misfit(rt: &HostRuntime) {
     let mut rest = [0u64, 1];
     let e = [1u64, 1, 1];
     let r = [0u64, 1];
-    hold(rt, &mut eqs, &mut rest, 1, 2, &e, &r, Outcome::Misfit);
+    hold(rt, &mut eqs, &mut rest, 1, 2, &e, &r, None);
 }
 
 // Two words of coefficients and two that ride along; the third equation is the sum of the others.
@@ -94,7 +66,7 @@ pub fn wide(rt: &HostRuntime) {
     let mut rest = [4u64, 0, 0, 0];
     let e = [4u64, 1, 2, 9, 1, 0, 3, 14, 0, 0, 0, 0];
     let r = [4u64, 0, 0, 0];
-    hold(rt, &mut eqs, &mut rest, 2, 4, &e, &r, Outcome::Rank(2));
+    hold(rt, &mut eqs, &mut rest, 2, 4, &e, &r, Some(2));
 }
 
 // A constant rides along, and a mark for each equation: the third equation is left as the sum of all three.
@@ -103,5 +75,5 @@ pub fn marked(rt: &HostRuntime) {
     let mut rest = [7u64, 0, 4, 1];
     let e = [5u64, 7, 3, 4, 0, 14];
     let r = [1u64, 3, 1, 6];
-    hold(rt, &mut eqs, &mut rest, 1, 2, &e, &r, Outcome::Rank(2));
+    hold(rt, &mut eqs, &mut rest, 1, 2, &e, &r, Some(2));
 }

@@ -1,42 +1,17 @@
 // Systems that are judged: whether they have a solution. Each check is proved from the laws of gf2.
 ghost use Rattle.std.specs.Prelude.{◌≡◌};
-ghost use Rattle.solve.specs.Verdicts.{verdict_of, number_of};
+ghost use Rattle.solve.specs.Verdicts.{verdict_of};
 
 use crate::verdict;
 use crate::verdict::Verdict;
-
-// Prints the verdict on a line.
-fn tell(rt: &HostRuntime, v: Verdict) {
-    match v {
-        Verdict::Misfit => {
-            let _ = println!(rt; "misfit");
-        }
-        Verdict::Solvable => {
-            let _ = println!(rt; "solvable");
-        }
-        Verdict::Not => {
-            let _ = println!(rt; "not solvable");
-        }
-    }
-}
-
-fn number(v: Verdict) -> u8
-    ensures { result ≡ number_of v }
-{
-    match v {
-        Verdict::Misfit => 0,
-        Verdict::Solvable => 1,
-        Verdict::Not => 2,
-    }
-}
 
 // Judges a system, prints the verdict and checks that it is v.
 fn judge(rt: &HostRuntime, eqs: &mut [u64], c: usize, w: usize, v: Verdict)
     requires { verdict_of c w eqs.old ≡ v }
 {
     let got = verdict::solvable(eqs, c, w);
-    tell(rt, got);
-    check::expect(number(got) == number(v));
+    let _ = println!(rt; "{got}");
+    check::expect(got == v);
 }
 
 // x0 + x64 = 1 and x65 = 1.

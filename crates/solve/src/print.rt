@@ -2,38 +2,35 @@
 ghost use Rattle.std.specs.Prelude.{◌≡◌};
 ghost use Rattle.gf2.specs.Solve.{done, solved};
 
-use gf2::Outcome;
-
 // Prints the words on a line.
 fn line(rt: &HostRuntime, v: &[u64]) {
-    let mut i = 0;
-    while i < v.len() {
-        let x = v[i];
+    for x in v {
         let _ = print!(rt; " {x}");
-        i += 1;
     }
     let _ = println!(rt; "");
 }
 
-// Prints the outcome on a line.
-fn answer(rt: &HostRuntime, o: Outcome) {
-    match o {
-        Outcome::Misfit => {
-            let _ = println!(rt; "misfit");
-        }
-        Outcome::Rank(k) => {
-            let _ = println!(rt; "rank {k}");
-        }
-    }
+// Prints the rank on a line, or that there is none.
+fn answer(rt: &HostRuntime, rank: Option<usize>) {
+    let _ = match rank {
+        Some(k) => println!(rt; "rank {k}"),
+        None => println!(rt; "misfit"),
+    };
 }
 
 // Eliminates, prints what is left, and answers as `eliminate` does.
-pub fn solve(rt: &HostRuntime, eqs: &mut [u64], rest: &mut [u64], c: usize, w: usize) -> Outcome
+pub fn solve(
+    rt: &HostRuntime,
+    eqs: &mut [u64],
+    rest: &mut [u64],
+    c: usize,
+    w: usize,
+) -> Option<usize>
     ensures { done eqs.new rest.new result ≡ solved c w eqs.old rest.old }
 {
-    let o = gf2::eliminate(eqs, rest, c, w);
-    answer(rt, o);
+    let rank = gf2::eliminate(eqs, rest, c, w);
+    answer(rt, rank);
     line(rt, eqs);
     line(rt, rest);
-    o
+    rank
 }

@@ -47,16 +47,14 @@ pub fn three_words(rt: &HostRuntime) {
 
 // No equation: the rest stay as they are.
 pub fn no_equations(rt: &HostRuntime) {
-    let mut eqs = [0u64; 1];
     let mut rest = [5u64, 6];
-    print::solve(rt, &mut eqs[..0], &mut rest, 1, 2);
+    print::solve(rt, &mut [], &mut rest, 1, 2);
 }
 
 // Nothing but equations.
 pub fn no_rest(rt: &HostRuntime) {
     let mut eqs = [1u64, 1, 0, 1, 1, 0, 3, 1, 1];
-    let mut rest = [0u64; 1];
-    print::solve(rt, &mut eqs, &mut rest[..0], 2, 3);
+    print::solve(rt, &mut eqs, &mut [], 2, 3);
 }
 
 // Rows of no words.

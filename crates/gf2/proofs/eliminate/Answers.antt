@@ -1,47 +1,19 @@
 -- `gf2::eliminate`: each misfit, and the run on whole rows.
-use mathlib.Core.Path.{◌∙◌}
-use native.Mathlib.Omega.{arith}
-use lib.ListN.{length}
-use Rattle.gf2.proofs.Glue.{misfit, no_width, too_many, odd-eqs, odd-rest, fit_done}
+use Rattle.std.proofs.Common.{arith}
+use Rattle.gf2.proofs.Glue.{misfit, fit_done}
 use Rattle.gf2.proofs.Calls.{all_fit}
-use Rattle.bits.proofs.RowLaws.{whole-rows}
 use Rattle.gf2.proofs.eliminate.Goals as goal
+use Rattle.gf2.proofs.eliminate.Goals.{then-w-eq0-via-then-w-eq0, then-w-eq0-via-else-w-eq0+then-w-c, then-w-eq0-via-else-w-eq0+else-w-c+then-eqs-w-ne0, then-w-eq0-via-else-w-eq0+else-w-c+else-eqs-w-ne0+then-rest-w-ne0}
 
 pub returns-then-w-eq0 : goal.returns-then-w-eq0
-returns-then-w-eq0 c =
-    let A = c.args in
-    misfit A.c A.w A.eqs.now A.rest.now (no_width A.c A.w A.eqs.now A.rest.now c.if-w-eq0.true)
-
-pub returns-then-w-c : goal.returns-then-w-c
-returns-then-w-c c =
-    let A = c.args in
-    misfit A.c A.w A.eqs.now A.rest.now (too_many A.c A.w A.eqs.now A.rest.now c.if-w-eq0.false c.if-w-c.true)
-
-pub returns-then-eqs-w-ne0 : goal.returns-then-eqs-w-ne0
-returns-then-eqs-w-ne0 c =
-    let A = c.args in
-    misfit A.c A.w A.eqs.now A.rest.now (odd-eqs A.c A.w A.eqs.now A.rest.now c.if-w-eq0.false c.if-w-c.false c.if-eqs-w-ne0.true)
-
-pub returns-then-rest-w-ne0 : goal.returns-then-rest-w-ne0
-returns-then-rest-w-ne0 c =
-    let A = c.args in
-    misfit A.c A.w A.eqs.now A.rest.now (odd-rest A.c A.w A.eqs.now A.rest.now c.if-w-eq0.false c.if-w-c.false c.if-eqs-w-ne0.false c.if-rest-w-ne0.true)
-
-pub run-rank-requires : goal.run-rank-requires
-run-rank-requires c =
-    let A = c.args in
-    (whole-rows (length A.eqs.now) A.w c.if-eqs-w-ne0.false, whole-rows (length A.rest.now) A.w c.if-rest-w-ne0.false, omega arith, omega (arith, c.if-w-eq0.false))
+returns-then-w-eq0 c = let A = c.args in misfit A.c A.w A.eqs.now A.rest.now (λ n k p q. elim c.then-w-eq0.branch [
+  | then-w-eq0-via-then-w-eq0 b ↦ n b.if-w-eq0.true
+  | then-w-eq0-via-else-w-eq0+then-w-c b ↦ omega arith
+  | then-w-eq0-via-else-w-eq0+else-w-c+then-eqs-w-ne0 b ↦ b.if-eqs-w-ne0.true p
+  | then-w-eq0-via-else-w-eq0+else-w-c+else-eqs-w-ne0+then-rest-w-ne0 b ↦ b.if-rest-w-ne0.true q
+])
 
 pub returns : goal.returns
 returns c =
-    let call = c in
-    let test4 = call in
-    let test3 = test4 in
-    let test2 = test3 in
-    let test1 = test2 in
-    let A = test1.args in
-    let R = call.run-rank in
-    fit_done A.c A.w A.eqs.now A.rest.now R.new.eqs R.new.rest R.result
-    (all_fit A.c A.w A.eqs.now A.rest.now test1.if-w-eq0.false test2.if-w-c.false test3.if-eqs-w-ne0.false test4.if-rest-w-ne0.false)
-    (R.auto.eqs ∙ whole-rows (length A.eqs.now) A.w test3.if-eqs-w-ne0.false) (R.auto.rest ∙ whole-rows (length A.rest.now) A.w test4.if-rest-w-ne0.false)
-    R.ensures
+    let f = all_fit _ _ _ _ c.if-w-eq0.false c.if-w-c.false c.if-eqs-w-ne0.false c.if-rest-w-ne0.false in
+    fit_done _ _ _ _ _ _ _ f c.run.auto.eqs c.run.auto.rest c.run.ensures

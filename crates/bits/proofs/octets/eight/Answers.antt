@@ -1,12 +1,9 @@
-use native.Mathlib.Omega.{arith}
-use Rattle.bits.proofs.Joining.{too_short, too_far, inside}
+use Rattle.std.proofs.Common.{arith, rules}
+use Rattle.bits.proofs.Joining.{inside, out_of}
 use Rattle.bits.proofs.octets.eight.Goals as goal
 
-pub returns-then-s-lt8 : goal.returns-then-s-lt8
-returns-then-s-lt8 c = too_short _ _ c.if-s-lt8.true
+pub returns-in-Some : goal.returns-in-Some
+returns-in-Some c = inside _ _ _ c.in-Some.word.now (λ i. omega (arith, c.type_inv.s i)) c.from_le_bytes.ensures (search rules) (search rules)
 
-pub returns-then-s-at : goal.returns-then-s-at
-returns-then-s-at c = too_far _ _ c.if-s-at.true
-
-pub returns : goal.returns
-returns c = inside _ _ _ (omega arith) c.joined.ensures
+pub returns-in-None : goal.returns-in-None
+returns-in-None c = out_of _ _ (search rules)

@@ -1,32 +1,17 @@
-use mathlib.Core.Path.{sym, ap₂, ◌∙◌}
-use lib.Bits.{bit_xor}
-use borrow.Author.Tests.{not-true}
-use Rattle.bits.proofs.RowLaws.{length_part}
-use Rattle.bits.proofs.RowXor.{length-⊻, get_or-⊻}
-use Rattle.bits.proofs.RowsWritten.{added_within-fits, added_within-out}
-use Rattle.bits.proofs.Writing.{pasted_none, pasted_next, pasted_all, still, elsewhere, apart-room}
-use mathlib.Core.Path.{ap}
-use mathlib.Core.Bool.{not}
+use Rattle.std.proofs.Common.{arith, rules, refl}
+use Rattle.bits.proofs.Writing.{added-high, added-low}
+use Rattle.bits.proofs.RowsWritten.{added_within-out}
 use Rattle.bits.proofs.rows.add_within.Goals as goal
 
 pub returns-then-not-apart : goal.returns-then-not-apart
-returns-then-not-apart c = sym (added_within-out _ _ _ _ (sym c.apart.ensures ∙ not-true _ (ap not c.if-not-apart.true)))
+returns-then-not-apart c = added_within-out _ _ _ _ (search rules)
 
-pub loop-k-init : goal.loop-k-init
-loop-k-init c =
-    let room = apart-room _ _ _ _ c.apart.ensures (ap not c.if-not-apart.false) in
-    (pasted_none _ _ _ _ room.0 (length-⊻ _ _ _ (length_part _ _ _ room.0) (length_part _ _ _ room.1)), (room.1, room.2))
+pub returns-then-from-to : goal.returns-then-from-to
+returns-then-from-to c =
+    let S = c.split_at_mut-low.ensures in
+    added-high _ _ _ _ _ (search rules) (search rules) _ _ _ (omega arith) S.front S.back refl (omega arith) c.xor.ensures
 
-pub loop-k-preserved : goal.loop-k-preserved
-loop-k-preserved c =
-    let turn = c.loop-k-test.true in
-    let inv = c.loop-k.invariant.0 in
-    (pasted_next inv _ turn (ap₂ bit_xor (still inv turn) (elsewhere inv _ turn c.loop-k.invariant.1.1) ∙ sym (get_or-⊻ _ _ _)), c.loop-k.invariant.1)
-
-pub shape_of-v : goal.shape_of-v
-shape_of-v c = c.loop-k.invariant.0.size
-
-pub returns : goal.returns
-returns c =
-    let inv = c.loop-k.invariant in
-    pasted_all inv.0 c.loop-k-test.false ∙ sym (added_within-fits _ _ _ _ inv.0.room inv.1.0 inv.1.1)
+pub returns-else-from-to : goal.returns-else-from-to
+returns-else-from-to c =
+    let S = c.split_at_mut-low-else-from-to.ensures in
+    added-low _ _ _ _ _ (search rules) (search rules) _ _ _ (omega arith) S.front S.back refl (omega arith) c.xor-else-from-to.ensures

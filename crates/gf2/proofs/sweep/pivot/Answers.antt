@@ -1,109 +1,37 @@
 -- `pivot` is a step of the model: the rows before equation i, those after it, and the rest are swept by it.
-use mathlib.Core.Path.{refl, sym, ◌∙◌}
-use mathlib.Core.Logic.{inl, inr}
-use Prim.Native.Nat.{◌+◌, ◌*◌, ◌-◌}
-use native.Mathlib.Omega.{arith}
-use lib.ListN.{get_or}
-use lib.Count.{count_leading_zeros}
-use Rattle.gf2.specs.Inner.{used}
-use Rattle.gf2.proofs.Leads.{top_le}
-use Rattle.gf2.proofs.Highest.{last-zeros}
-use Rattle.gf2.proofs.Glue.{cut, step-none, step-some}
+use Rattle.std.proofs.Common.{◌<◌, ◌∙◌, arith, ℕ, get_or, rules}
+use mir.Val.{Fits}
+use mir.Syntax.{w64}
+use lib.Seq.{length-take-le}
+use Rattle.gf2.proofs.Highest.{few_zeros, lead_word}
+use Rattle.gf2.proofs.Glue.{seen, step-none, step-some}
 use Rattle.gf2.proofs.sweep.pivot.Goals as goal
 
-pub overflow_mul-at : goal.overflow_mul-at
-overflow_mul-at c =
-    let A = c.args in
-    let p = cut A.m A.i A.w (omega arith) in
-    omega arith
-
-pub words-k-requires : goal.words-k-requires
-words-k-requires c =
-    let A = c.args in
-    let p = cut A.m A.i A.w (omega arith) in
-    omega arith
-
-pub returns-then-k-eq0 : goal.returns-then-k-eq0
-returns-then-k-eq0 c =
-    let A = c.args in
+pub returns-in_default : goal.returns-in_default
+returns-in_default c n =
     let H = c.requires in
-    step-none A.eqs.now A.rest.now A.m A.q A.i A.c A.w A.rank H.0 H.2 H.3 (sym c.words-k.ensures ∙ c.if-k-eq0.true)
+    let B = c.split_at_mut-before.ensures in
+    let R = c.split_at_mut-row.ensures in
+    step-none _ _ _ _ _ _ _ _ _ H.1 H.2 H.0 H.3 H.4 B.front B.back R.front R.back n c.in_default.ensures
 
-pub overflow_add-j : goal.overflow_add-j
-overflow_add-j c =
-    let A = c.args in
-    let p = cut A.m A.i A.w (omega arith) in
-    let q = top_le (used A.eqs.now (A.i * A.w)) A.c in
-    let e = c.words-k.ensures in
-    omega arith
-
-pub offset_bounds-eqs-at : goal.offset_bounds-eqs-at
-offset_bounds-eqs-at c =
-    let A = c.args in
-    let p = cut A.m A.i A.w (omega arith) in
-    let q = top_le (used A.eqs.now (A.i * A.w)) A.c in
-    let e = c.words-k.ensures in
-    omega arith
-
-pub bounds-eqs-at : goal.bounds-eqs-at
-bounds-eqs-at c =
-    let A = c.args in
-    let p = cut A.m A.i A.w (omega arith) in
-    let q = top_le (used A.eqs.now (A.i * A.w)) A.c in
-    let e = c.words-k.ensures in
-    omega arith
-
-pub overflow_sub-j-2 : goal.overflow_sub-j-2
-overflow_sub-j-2 c =
-    let A = c.args in
-    let k = c.words-k.result in
-    last-zeros A.eqs.now (A.i * A.w) A.c A.w c.requires.3 k (sym c.words-k.ensures) c.if-k-eq0.false (c.type_inv.eqs (A.i * A.w + k - 1)).fits
-
-pub sweep_within-requires : goal.sweep_within-requires
-sweep_within-requires c =
-    let A = c.args in
-    let p = cut A.m A.i A.w (omega arith) in
-    let q = top_le (used A.eqs.now (A.i * A.w)) A.c in
-    let e = c.words-k.ensures in
-    record { w_in_bounds = (omega arith, omega arith, omega arith, omega arith); fact = inl (omega arith) }
-
-pub overflow_add-at : goal.overflow_add-at
-overflow_add-at c =
-    let A = c.args in
-    let p = cut A.m A.i A.w (omega arith) in
-    omega arith
-
-pub sweep_within-requires-2 : goal.sweep_within-requires-2
-sweep_within-requires-2 c =
-    let A = c.args in
-    let p = cut A.m A.i A.w (omega arith) in
-    let q = top_le (used A.eqs.now (A.i * A.w)) A.c in
-    let e = c.words-k.ensures in
-    let n = c.sweep_within.auto.v in
-    record { w_in_bounds = (omega arith, omega arith, omega arith, omega arith); fact = inr (omega arith) }
-
-pub sweep_across-requires : goal.sweep_across-requires
-sweep_across-requires c =
-    let A = c.args in
-    let p = cut A.m A.i A.w (omega arith) in
-    let q = top_le (used A.eqs.now (A.i * A.w)) A.c in
-    let e = c.words-k.ensures in
-    let n = c.sweep_within.auto.v in
-    let o = c.sweep_within-2.auto.v in
-    (omega arith, omega arith, omega arith, omega arith)
+pub overflow_sub-j : goal.overflow_sub-j
+overflow_sub-j c =
+    let H = c.requires in
+    let R = c.split_at_mut-row.ensures in
+    let K = c.in-Some.ensures in
+    let k : c.in-Some.k < c.args.c = let n = length-take-le c.args.c c.split_at_mut-row.result.0.now (omega arith) in omega (arith, K.0) in
+    let s = seen _ _ _ H.3 R.front_len c.in-Some.k k in
+    few_zeros c.args.c _ c.in-Some.k k (omega (arith, K.1, s.1)) (c.type_inv.row c.in-Some.k).fits
 
 pub returns : goal.returns
-returns c =
-    let third = c in
-    let second = third in
-    let first = second in
-    let known = first in
-    let found = known in
-    let start = found in
-    let A = start.args in
-    let H = start.requires in
-    let x = A.i * A.w + found.words-k.result - 1 in
-    step-some A.eqs.now first.sweep_within.new.v second.sweep_within-2.new.v A.rest.now third.sweep_across.new.dst
-    A.m A.q A.i A.c A.w A.rank found.words-k.result (63 - count_leading_zeros 64 (get_or A.eqs.now x 0)) H.0 H.1 H.2 H.3
-    (sym found.words-k.ensures) known.if-k-eq0.false (omega arith) refl
-    first.sweep_within.ensures second.sweep_within-2.ensures third.sweep_across.ensures
+returns c n =
+    let H = c.requires in
+    let B = c.split_at_mut-before.ensures in
+    let R = c.split_at_mut-row.ensures in
+    let K = c.in-Some.ensures in
+    let k : c.in-Some.k < c.args.c = let n = length-take-le c.args.c c.split_at_mut-row.result.0.now (omega arith) in omega (arith, K.0) in
+    let f : (i : ℕ) → Fits w64 (get_or c.split_at_mut-row.result.0.now i 0) = search rules in
+    let p : 0 < get_or c.split_at_mut-row.result.0.now c.in-Some.k 0 = let s = seen _ _ _ H.3 R.front_len c.in-Some.k k in omega (arith, K.1, s.1) in
+    step-some _ _ _ _ _ _ _ _ _ H.1 H.2 H.0 H.3 H.4 B.front B.back R.front R.back _ _ _ c.in-Some.k _ n
+    (lead_word _ _ _ k p (f c.in-Some.k).fits (λ t h l. let s = seen _ _ _ H.3 R.front_len t l in s.1 ∙ K.2 t h s.0))
+    (omega arith) c.sweep.ensures c.sweep-2.ensures c.sweep-3.ensures

@@ -1,39 +1,23 @@
 -- `run`: the equations from i on are to do.
-use mathlib.Core.Path.{◌≡◌, refl, ap, ◌∙◌}
-use Prim.Native.Nat.{ℕ, ◌-◌}
-use native.Mathlib.Omega.{arith}
-use Rattle.bits.specs.Rows.{rows}
-use Rattle.gf2.specs.Solve.{Sys, sys, steps}
-use Rattle.gf2.proofs.Glue.{steps_turn, rank_step, all-steps}
+use Rattle.std.proofs.Common.{◌≡◌, ℕ, ◌+◌, ◌/◌, length, ap, ◌∙◌, arith, add-zero}
+use Rattle.bits.specs.Vectors.{bit}
+use Rattle.bits.specs.Rows.{rows_of}
+use Rattle.gf2.specs.Solve.{sys}
+use Rattle.gf2.proofs.Glue.{steps_turn, all-steps}
 use Rattle.gf2.proofs.sweep.run.Goals as goal
-
-pub loop-i-init : goal.loop-i-init
-loop-i-init c =
-    let A = c.args in
-    let z : A.m - 0 ≡ A.m = omega arith in
-    (omega arith, omega arith, refl, refl, ap (λ (n : ℕ). steps A.c n 0 (sys (rows A.w A.m A.eqs.now) (rows A.w A.q A.rest.now) 0)) z)
-
-pub pivot-rank-requires : goal.pivot-rank-requires
-pivot-rank-requires c = (omega arith, omega arith, omega arith, omega arith, omega arith, omega arith)
+use Rattle.gf2.proofs.sweep.run.Goals.{then-pivot, else-pivot}
 
 pub loop-i-preserved : goal.loop-i-preserved
 loop-i-preserved c =
     let A = c.args in
     let L = c.loop-i in
-    let P = c.pivot-rank in
-    let s : Sys = sys (rows A.w A.m L.eqs) (rows A.w A.q L.rest) L.rank in
-    let t : Sys = sys (rows A.w A.m P.new.eqs) (rows A.w A.q P.new.rest) P.result in
-    let r = rank_step A.c L.i s in
-    let e = ap (λ (x : Sys). x.rank) P.ensures in (
-      omega arith,
-      omega arith,
-      P.auto.eqs ∙ L.invariant.2,
-      P.auto.rest ∙ L.invariant.3,
-      steps_turn A.c A.m L.i s t (omega arith) P.ensures ∙ L.invariant.4,
+    let P = c.pivot in
+    let more : c.if-pivot.rank ≡ L.rank + bit P.result =
+    elim c.if-pivot.branch [ then-pivot b ↦ rw b.if-pivot.true b.rank-is | else-pivot b ↦ rw (b.if-pivot.false, add-zero) b.rank-is ] in
+    let s = λ (n : ℕ). sys (rows_of A.w P.new.eqs) (rows_of A.w P.new.rest) n in (
+      elim c.if-pivot.branch [ then-pivot b ↦ omega arith | else-pivot b ↦ omega arith ],
+      steps_turn A.c (length A.eqs.now / A.w) L.i _ (s c.if-pivot.rank) c.loop-i-test.true (ap s more ∙ P.ensures L.rank) ∙ L.invariant.1,
     )
 
 pub returns : goal.returns
-returns c =
-    let A = c.args in
-    let L = c.loop-i in
-    all-steps L.eqs L.rest A.eqs.now A.rest.now A.c A.w A.m A.q L.i L.rank (omega arith) L.invariant.4
+returns c = all-steps _ _ _ _ _ c.loop-i.i (omega arith) c.loop-i.invariant.1

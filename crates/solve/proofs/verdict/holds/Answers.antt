@@ -1,51 +1,29 @@
--- `holds`: the rows from a on are to scan.
-use mathlib.Core.Path.{refl, sym, ◌∙◌}
+-- `holds`: the rows that the iterator has left are to scan.
+use Rattle.std.proofs.Common.{sym, ◌∙◌, arith}
 use mathlib.Core.Logic.{inl, inr}
-use native.Mathlib.Omega.{arith}
-use lib.ListN.{drop}
-use Rattle.bits.proofs.RowLaws.{pred_mul}
 use Rattle.solve.proofs.Scan.{row_bad, row_good, rows_none}
-use Rattle.solve.proofs.verdict.holds.Goals.{then-blank+else-v-a-eq1, else-blank}
 use Rattle.solve.proofs.verdict.holds.Goals as goal
+use Rattle.solve.proofs.verdict.holds.Goals.{else-not-led-via-then-not-led+else-row-c-eq1, else-not-led-via-else-not-led}
 
-pub loop-left-init : goal.loop-left-init
-loop-left-init c = (omega arith, omega arith, refl)
+pub returns-then-row-c-eq1 : goal.returns-then-row-c-eq1
+returns-then-row-c-eq1 c =
+    let I = c.loop-row.invariant in
+    let S = c.in-Some.ensures.steps.1 in
+    sym (row_bad _ _ _ _ _ c.requires S.0 (S.1 ∙ I.0) (sym c.led.ensures ∙ c.if-not-led.true) c.if-row-c-eq1.true) ∙ I.1
 
-pub blank-requires : goal.blank-requires
-blank-requires c = let p = pred_mul c.loop-left.left c.args.w (omega arith) in omega arith
-
-pub overflow_add-a : goal.overflow_add-a
-overflow_add-a c = let p = pred_mul c.loop-left.left c.args.w (omega arith) in omega arith
-
-pub offset_bounds-v-a : goal.offset_bounds-v-a
-offset_bounds-v-a c = let p = pred_mul c.loop-left.left c.args.w (omega arith) in omega arith
-
-pub bounds-v-a : goal.bounds-v-a
-bounds-v-a c = let p = pred_mul c.loop-left.left c.args.w (omega arith) in omega arith
-
-pub returns-then-v-a-eq1 : goal.returns-then-v-a-eq1
-returns-then-v-a-eq1 c =
-    let L = c.loop-left in
-    let A = c.args in
-    let p = pred_mul L.left A.w (omega arith) in
-    sym (row_bad A.v.now L.a A.c A.w L.left (omega arith) (omega arith) (omega arith) (sym c.blank.ensures ∙ c.if-blank.true) c.if-v-a-eq1.true) ∙ L.invariant.2
-
-pub overflow_add-a-in-loop-left : goal.overflow_add-a-in-loop-left
-overflow_add-a-in-loop-left c = let p = pred_mul c.loop-left.left c.args.w (omega arith) in omega arith
-
-pub loop-left-preserved : goal.loop-left-preserved
-loop-left-preserved c =
-    let L = c.loop-left in
-    let A = c.args in
-    let p = pred_mul L.left A.w (omega arith) in (
-      omega arith,
-      omega arith,
-      row_good A.v.now L.a A.c A.w L.left (omega arith) (omega arith) (omega arith) (λ t. (c.type_inv.v t).fits)
-          (elim c.if-blank.branch [ then-blank+else-v-a-eq1 w ↦ inl w.if-v-a-eq1.false | else-blank w ↦ inr (sym c.blank.ensures ∙ w.if-blank.false) ]) ∙ L.invariant.2,
+pub loop-row-preserved : goal.loop-row-preserved
+loop-row-preserved c =
+    let I = c.loop-row.invariant in
+    let S = c.in-Some.ensures.steps in (
+      S.0 ∙ I.0,
+      row_good _ _ _ _ _ c.requires S.1.0 (S.1.1 ∙ I.0) (elim c.else-not-led.branch [
+        | else-not-led-via-then-not-led+else-row-c-eq1 b ↦ inr b.if-row-c-eq1.false
+        | else-not-led-via-else-not-led b ↦ inl (sym c.led.ensures ∙ b.if-not-led.false)
+      ]) ∙ I.1,
     )
 
 pub returns : goal.returns
 returns c =
-    let A = c.args in
-    let L = c.loop-left in
-    sym (rows_none A.c A.w L.left (drop L.a A.v.now) (omega arith)) ∙ L.invariant.2
+    let I = c.loop-row.invariant in
+    let S = c.in-None.ensures.steps.1 in
+    sym (rows_none _ _ _ (omega (arith, S.0))) ∙ I.1

@@ -1,13 +1,8 @@
--- `holds`: the rows from a on are to scan.
-use mathlib.Core.Path.{◌≡◌}
-use Prim.Native.Nat.{◌+◌, ◌*◌, ◌≤◌}
-use lib.ListN.{length, drop}
-use Rattle.bits.specs.Rows.{has, rows}
-use Rattle.gf2.specs.System.{consistent}
+-- `holds`: the rows that the iterator has left are to scan.
+use Rattle.std.proofs.Common.{◌≡◌}
+use Rattle.std.specs.Slice.Iter.{chunks_exact_rest, chunks_exact_size}
+use Rattle.solve.proofs.Scan.{scan}
 use Rattle.solve.proofs.verdict.holds.Given as goal
 
-abbrev pub invariant-loop-left : goal.invariant-loop-left
-invariant-loop-left l = (l.left ≤ l.n) × (l.a + l.left * l.w ≡ length l.v) × (consistent l.c (has (64 * l.c)) (rows l.w l.left (drop l.a l.v)) ≡ consistent l.c (has (64 * l.c)) (rows l.w l.n l.v))
-
-abbrev pub decreases-loop-left : goal.decreases-loop-left
-decreases-loop-left l = l.left
+abbrev pub invariant-loop-row : goal.invariant-loop-row
+invariant-loop-row l = (chunks_exact_size l.row-iterator ≡ l.w) × (scan l.c l.w (chunks_exact_rest l.row-iterator) ≡ scan l.c l.w l.v)
