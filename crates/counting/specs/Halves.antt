@@ -1,25 +1,17 @@
 -- The count of the unknowns by halves, on the symbols of a word: above 1 means erased.
---     SpreadOne, Spread     what is erased for two slots h apart, and for both halves: m before, m' after
+--     Spread                what is erased for both halves: l and r before, l' and r' after
 --     rules_from             the rules of the m positions from `at` on
 --     open_one, open_frees    how many open free positions one position has, and a block whose first position is `at`
-use Rattle.std.specs.Prelude.{◌≡◌, ℕ, ◌+◌, ◌<◌, Bool, ◌&&◌, ◌||◌, List, map, length, get_or}
+use Rattle.std.specs.Prelude.{◌≡◌, ℕ, ◌+◌, List, map, length}
 use Rattle.bits.specs.Vectors.{bit, tab, ones}
 use Rattle.meaning.specs.Sheet.{Rule, free, frozen, rule_at}
 use Rattle.meaning.specs.Codewords.{erased}
-use Rattle.meaning.specs.Open.{opens, open_free}
+use Rattle.meaning.specs.Open.{either, both, opens, open_free}
 
-abbrev pub lost_at : List ℕ → ℕ → Bool
-lost_at m j = erased (get_or m j 0)
-
--- the left one is erased where one of them was, the right one where both were
-pub record SpreadOne (h j : ℕ) (m m' : List ℕ) : Type 0 where
-  pub left : lost_at m' j ≡ (lost_at m j || lost_at m (h + j))
-  pub right : lost_at m' (h + j) ≡ (lost_at m j && lost_at m (h + j))
-  pub others : (i : ℕ) → (i ≡ j → ⊥) → (i ≡ h + j → ⊥) → get_or m' i 0 ≡ get_or m i 0
-
-pub record Spread (h : ℕ) (m m' : List ℕ) : Type 0 where
-  pub left : (j : ℕ) → j < h → lost_at m' j ≡ (lost_at m j || lost_at m (h + j))
-  pub right : (j : ℕ) → j < h → lost_at m' (h + j) ≡ (lost_at m j && lost_at m (h + j))
+-- the left half l' is erased where one of l and r was, the right half r' where both were
+pub record Spread (l r l' r' : List ℕ) : Type 0 where
+  pub left : map erased l' ≡ either (map erased l) (map erased r)
+  pub right : map erased r' ≡ both (map erased l) (map erased r)
 
 abbrev pub open_one : Rule → ℕ → ℕ
 open_one free s = bit (erased s)

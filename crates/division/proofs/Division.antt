@@ -1,22 +1,22 @@
 -- Division by the check polynomial on words: one step of the register is one step of long division.
 --     step-is            a bit shifted in, and the polynomial subtracted where a 1 went out
---     starts, more       feeding the register, from ones on
+--     starts, more, fed_more, flush_more     feeding the register, from ones on
 --     fed-zero           the remainder is zero exactly when the word is 0
 use mathlib.Core.Path.{◌≡◌, refl, sym, ap, ap₂, ◌∙◌, subst}
-use mathlib.Core.Logic.{◌⊎◌, ⊎_elim}
+use mathlib.Core.Logic.{◌⊎◌, inl, inr, ⊎_elim}
 use Prim.Native.Nat.{ℕ, zero, suc, ◌+◌, ◌-◌, ◌*◌, ◌/◌, ◌%◌, ◌^◌, ◌<◌, ◌≤◌}
 use native.Mathlib.Omega.{arith}
 use native.Mathlib.Nat.{pow-suc, div-one, mod-lt, div-eq_of_lt, div-eq_of_lt-le}
 use native.Mathlib.Numerals.{add-one}
 use native.Mathlib.Decide.{dec_lt}
-use mathlib.Core.Bool.{Bool, true, false, ◌&&◌, not}
-use mathlib.Core.List.{List, [], ◌∷◌, ◌++◌, map, map-id, map-append, append_assoc, append-nil}
+use mathlib.Core.Bool.{Bool, true, false, ◌&&◌, ◌||◌, not}
+use mathlib.Core.List.{List, [], ◌∷◌, ◌++◌, map, map-id, map-append, append_assoc}
 use lib.ListN.{length, take, get_or, replicate, replicate-append-replicate}
 use lib.Seq.{take-suc}
 use lib.Dec.{eqb}
 use lib.Pow.{pow_pos}
 use lib.Bits.{bit_xor, xor_block, xor_lt}
-use borrow.Author.Tests.{eq-eqb, ne_eqb}
+use borrow.Author.Tests.{eq-eqb, ne_eqb, eqb-true}
 use Rattle.bits.specs.Vectors.{◌⊞◌, bit, zeros}
 use Rattle.bits.specs.Words.{bit_at}
 use Rattle.bits.proofs.Xor.{⊞-none}
@@ -28,7 +28,7 @@ use Rattle.meaning.specs.Payload.{remainder}
 use Rattle.meaning.specs.Answers.{is_one}
 use Rattle.meaning.proofs.Remainder.{rest_append, length-poly, scale_none}
 use Rattle.meaning.proofs.Ones.{starts_from}
-use Rattle.division.specs.Division.{to_bits, poly_word, Fed}
+use Rattle.division.specs.Division.{to_bits, poly_word, Shifted, Fed, listed}
 
 -- ---- a word as its bits
 
@@ -68,10 +68,23 @@ pub record Divisor (r : ℕ) : Type 0 where
   pub low : 2 ^ r ≤ poly_word r
   pub high : poly_word r < 2 ^ suc r
 
-pub divisor : (r : ℕ) → (r ≡ 0) ⊎ ((r ≡ 6) ⊎ (r ≡ 11)) → Divisor r
+pub known : (r : ℕ) → listed r ≡ true → (r ≡ 0) ⊎ ((r ≡ 6) ⊎ (r ≡ 11))
+unfolding listed
+known r h = go (eqb r 0) (eqb r 6) (eqb-true r 0) (eqb-true r 6) h
+  where
+    go : (a b : Bool) → (a ≡ true → r ≡ 0) → (b ≡ true → r ≡ 6) → a || b || eqb r 11 ≡ true → (r ≡ 0) ⊎ ((r ≡ 6) ⊎ (r ≡ 11))
+    go true b p q h = inl (p refl)
+    go false true p q h = inr (inl (q refl))
+    go false false p q h = inr (inr (eqb-true r 11 h))
+
+pub divisor : (r : ℕ) → listed r ≡ true → Divisor r
 unfolding poly_word to_bits poly
-divisor r = ⊎_elim (λ e. rw e (record { bits = refl; low = omega arith; high = omega arith }))
+divisor r h = ⊎_elim (λ e. rw e (record { bits = refl; low = omega arith; high = omega arith }))
     (⊎_elim (λ e. rw e (record { bits = refl; low = omega arith; high = omega arith })) (λ e. rw e (record { bits = refl; low = omega arith; high = omega arith })))
+    (known r h)
+
+pub length-small : (r : ℕ) → listed r ≡ true → (r ≤ 11) × (2 ^ r ≤ 2 ^ 11)
+length-small r h = ⊎_elim (λ e. rw e (omega arith, omega arith)) (⊎_elim (λ e. rw e (omega arith, omega arith)) (λ e. rw e (omega arith, omega arith))) (known r h)
 
 -- ---- one step, by whether a 1 goes out
 
@@ -98,7 +111,7 @@ module _ (r s : ℕ) (b : Bool) (d : Divisor r) (h : s < 2 ^ r) where
       go (suc k) e =
           ap₂ ◌⊞◌ (sym (to_bits-put k s b)) (ap (λ (t : Bool). map (λ (x : Bool). t && x) (poly (suc k))) (f k e))
 
-  pub step-over : 2 ^ r ≤ s * 2 + bit b → (bit_xor (s * 2 + bit b) (poly_word r) < 2 ^ r) × (to_bits r (bit_xor (s * 2 + bit b) (poly_word r)) ≡ shift (poly r) (to_bits r s) b)
+  pub step-over : 2 ^ r ≤ s * 2 + bit b → Shifted r s b (bit_xor (s * 2 + bit b) (poly_word r))
   step-over l =
       let t : ℕ = s * 2 + bit b in
       let p : ℕ = poly_word r in
@@ -107,15 +120,19 @@ module _ (r s : ℕ) (b : Bool) (d : Divisor r) (h : s < 2 ^ r) where
       let ep : p ≡ 1 * 2 ^ r + (p - 2 ^ r) = omega (arith, d.low) in
       let lt : t - 2 ^ r < 2 ^ r = omega (arith, bit-small b) in
       let lp : p - 2 ^ r < 2 ^ r = omega (arith, d.low, d.high) in
-      let e : bit_xor t p ≡ bit_xor (t - 2 ^ r) (p - 2 ^ r) = ap₂ bit_xor et ep ∙ xor_block r 1 1 (t - 2 ^ r) (p - 2 ^ r) lt lp ∙ omega arith in (
-        rw e (xor_lt r (t - 2 ^ r) (p - 2 ^ r) lt lp),
-        to_bits_xor r t p ∙ ap (λ (g : List Bool). to_bits r t ⊞ g) (d.bits ∙ sym (map-id (poly r))) ∙ sym (shifted true (λ k q. top_one k q l)),
-      )
+      let e : bit_xor t p ≡ bit_xor (t - 2 ^ r) (p - 2 ^ r) = ap₂ bit_xor et ep ∙ xor_block r 1 1 (t - 2 ^ r) (p - 2 ^ r) lt lp ∙ omega arith in
+      record {
+        small = rw e (xor_lt r (t - 2 ^ r) (p - 2 ^ r) lt lp);
+        is = to_bits_xor r t p ∙ ap (λ (g : List Bool). to_bits r t ⊞ g) (d.bits ∙ sym (map-id (poly r))) ∙ sym (shifted true (λ k q. top_one k q l));
+      }
 
-  pub step_under : s * 2 + bit b < 2 ^ r → to_bits r (s * 2 + bit b) ≡ shift (poly r) (to_bits r s) b
+  pub step_under : s * 2 + bit b < 2 ^ r → Shifted r s b (s * 2 + bit b)
   step_under l =
       let t : ℕ = s * 2 + bit b in
-      sym (shifted false (λ k q. top-zero k q l) ∙ ap (λ (g : List Bool). to_bits r t ⊞ g) (scale_none (poly r)) ∙ ⊞-none (to_bits r t) (length (poly r)) (length-to_bits r t ∙ sym (length-poly r)))
+      record {
+        small = l;
+        is = sym (shifted false (λ k q. top-zero k q l) ∙ ap (λ (g : List Bool). to_bits r t ⊞ g) (scale_none (poly r)) ∙ ⊞-none (to_bits r t) (length (poly r)) (length-to_bits r t ∙ sym (length-poly r)));
+      }
 
 -- ---- feeding the register
 
@@ -127,14 +144,14 @@ ones-bits (suc r) =
     let e : 2 ^ suc r - 1 ≡ (2 ^ r - 1) * 2 + 1 = omega (arith, pow-suc 2 r, pow_pos r) in
     ap (to_bits (suc r)) e ∙ to_bits-put r (2 ^ r - 1) true ∙ ap (λ (l : List Bool). l ++ (true ∷ [])) (ones-bits r) ∙ replicate-append-replicate r 1 true ∙ ap (λ (k : ℕ). replicate k true) (add-one r)
 
-pub starts : (r limit : ℕ) → limit ≡ 2 ^ r → Fed r [] (limit - 1)
+pub starts : (r : ℕ) → Fed r [] (2 ^ r - 1)
 unfolding leads
-starts r limit e = rw e (record { small = omega (arith, pow_pos r); is = ones-bits r ∙ sym (starts_from r []) })
+starts r = record { small = omega (arith, pow_pos r); is = ones-bits r ∙ sym (starts_from r []) }
 
-pub more : (r : ℕ) (v : List Bool) (s t : ℕ) (b : Bool) → Fed r v s → t < 2 ^ r → to_bits r t ≡ shift (poly r) (to_bits r s) b → Fed r (v ++ (b ∷ [])) t
-more r v s t b f l e = record {
-  small = l;
-  is = e ∙ ap (λ (x : List Bool). shift (poly r) x b) f.is ∙ sym (rest_append (poly r) (replicate r false) (leads r ++ v) (b ∷ [])) ∙ ap (rest (poly r) (replicate r false)) (append_assoc (leads r) v (b ∷ []));
+pub more : (r : ℕ) (v : List Bool) (s t : ℕ) (b : Bool) → Fed r v s → Shifted r s b t → Fed r (v ++ (b ∷ [])) t
+more r v s t b f l = record {
+  small = l.small;
+  is = l.is ∙ ap (λ (x : List Bool). shift (poly r) x b) f.is ∙ sym (rest_append (poly r) (replicate r false) (leads r ++ v) (b ∷ [])) ∙ ap (rest (poly r) (replicate r false)) (append_assoc (leads r) v (b ∷ []));
 }
 
 -- the remainder is zero exactly when the word is 0
@@ -154,49 +171,20 @@ fed-zero r v s f = ap zeros (sym f.is) ∙ word_zero r s f.small
 
 -- ---- the loops
 
-pub length-small : (r : ℕ) → (r ≡ 0) ⊎ ((r ≡ 6) ⊎ (r ≡ 11)) → (r ≤ 11) × (2 ^ r ≤ 2 ^ 11)
-length-small r = ⊎_elim (λ e. rw e (omega arith, omega arith)) (⊎_elim (λ e. rw e (omega arith, omega arith)) (λ e. rw e (omega arith, omega arith)))
-
-module _ (l : List ℕ) (i : ℕ) (h : i < length l) where
-  taken : map is_one (take (i + 1) l) ≡ map is_one (take i l) ++ (is_one (get_or l i 0) ∷ [])
-  taken = rw (add-one i, take-suc l i 0 h) (map-append is_one (take i l) (get_or l i 0 ∷ []))
-
-  module _ (r s x : ℕ) (e : x ≡ bit (is_one (get_or l i 0))) (d : Divisor r) (f : Fed r (map is_one (take i l)) s) where
-    pub feed_over : 2 ^ r ≤ s * 2 + x → Fed r (map is_one (take (i + 1) l)) (bit_xor (s * 2 + x) (poly_word r))
-    feed_over k =
-        let b : Bool = is_one (get_or l i 0) in
-        let (low, q) = step-over r s b d f.small (rw e at k) in
-        rw (taken, e) (more r (map is_one (take i l)) s (bit_xor (s * 2 + bit b) (poly_word r)) b f low q)
-
-    pub feed_under : s * 2 + x < 2 ^ r → Fed r (map is_one (take (i + 1) l)) (s * 2 + x)
-    feed_under k =
-        let b : Bool = is_one (get_or l i 0) in
-        let low : s * 2 + bit b < 2 ^ r = rw e at k in
-        rw (taken, e) (more r (map is_one (take i l)) s (s * 2 + bit b) b f low (step_under r s b d f.small low))
+pub fed_more : (r : ℕ) (l : List ℕ) (i s t : ℕ) → i < length l → Fed r (map is_one (take i l)) s → Shifted r s (is_one (get_or l i 0)) t → Fed r (map is_one (take (i + 1) l)) t
+fed_more r l i s t h f k =
+    let e : map is_one (take (i + 1) l) ≡ map is_one (take i l) ++ (is_one (get_or l i 0) ∷ []) =
+    rw (add-one i, take-suc l i 0 h) (map-append is_one (take i l) (get_or l i 0 ∷ [])) in
+    rw e (more r (map is_one (take i l)) s t (is_one (get_or l i 0)) f k)
 
 -- every sequence with remainder `start` has, with i zeros more, remainder s
 abbrev pub Flushed : ℕ → ℕ → ℕ → ℕ → Type 0
 Flushed r start i s = (v : List Bool) → Fed r v start → Fed r (v ++ replicate i false) s
 
-pub flush_none : (r start : ℕ) → Flushed r start 0 start
-flush_none r start v f = subst (λ (w : List Bool). Fed r w start) (sym (append-nil v)) f
-
-module _ (r start i s : ℕ) (d : Divisor r) (h : s < 2 ^ r) (f : Flushed r start i s) where
-  put-false : (t : ℕ) → t < 2 ^ r → to_bits r t ≡ shift (poly r) (to_bits r s) false → Flushed r start (i + 1) t
-  put-false t l e v q =
-      let m = more r (v ++ replicate i false) s t false (f v q) l e in
-      subst (λ (w : List Bool). Fed r w t) (append_assoc v (replicate i false) (false ∷ []) ∙ ap (λ (w : List Bool). v ++ w) (replicate-append-replicate i 1 false)) m
-
-  even : s * 2 + 0 ≡ s * 2
-  even = omega arith
-
-  pub flush_over : 2 ^ r ≤ s * 2 → (bit_xor (s * 2) (poly_word r) < 2 ^ r) × Flushed r start (i + 1) (bit_xor (s * 2) (poly_word r))
-  flush_over k =
-      let (low, e) = rw even at (step-over r s false d h (rw even k)) in
-      (low, put-false (bit_xor (s * 2) (poly_word r)) low e)
-
-  pub flush_under : s * 2 < 2 ^ r → Flushed r start (i + 1) (s * 2)
-  flush_under k = put-false (s * 2) k (rw even at (step_under r s false d h (rw even k)))
+pub flush_more : (r start i s t : ℕ) → Flushed r start i s → Shifted r s false t → Flushed r start (i + 1) t
+flush_more r start i s t f l v q =
+    let m = more r (v ++ replicate i false) s t false (f v q) l in
+    subst (λ (w : List Bool). Fed r w t) (append_assoc v (replicate i false) (false ∷ []) ∙ ap (λ (w : List Bool). v ++ w) (replicate-append-replicate i 1 false)) m
 
 -- place i of a word's bits, highest first
 pub bits_at : (r s i : ℕ) → i < r → get_or (map bit (to_bits r s)) i 0 ≡ bit_at s (r - 1 - i)

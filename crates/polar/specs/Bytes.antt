@@ -1,6 +1,5 @@
 -- The transform over bytes, as the code does it; over bytes that are bits it is the transform of 01 (proofs/Transforming).
 --     xor_bytes       byte by byte, as long as the first
---     folded         the right part added to the left part
 --     polar_bytes     the transform by halves
 --     transformed    what `transform` leaves: the transform of 2 ^ n bytes, and any other list as it is
 use Rattle.std.specs.Prelude.{ℕ, zero, suc, ◌^◌, List, [], ◌∷◌, ◌++◌, length, take, drop, eqb}
@@ -11,10 +10,6 @@ unfoldable pub xor_bytes : List ℕ → List ℕ → List ℕ
 xor_bytes [] t = []
 xor_bytes (a ∷ s) [] = a ∷ s
 xor_bytes (a ∷ s) (b ∷ t) = bit_xor a b ∷ xor_bytes s t
-
--- the part from h on, added to the part before it
-unfoldable pub folded : ℕ → List ℕ → List ℕ
-folded h l = xor_bytes (take h l) (drop h l) ++ drop h l
 
 unfoldable pub polar_bytes : ℕ → List ℕ → List ℕ
 polar_bytes zero l = l

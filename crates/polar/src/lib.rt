@@ -2,17 +2,16 @@
 #![tactic(auto)]
 
 ghost use Rattle.std.specs.Prelude.{◌≡◌, ◌+◌, ◌^◌, length, eqb};
-ghost use Rattle.polar.specs.Bytes.{folded, polar_bytes, transformed};
+ghost use Rattle.polar.specs.Bytes.{polar_bytes, transformed, xor_bytes};
 
-// Adds the right half, from h on, to the left half.
-fn fold(s: &mut [u8], h: usize)
-    requires { length s.old ≡ h + h }
-    ensures { s.new ≡ folded h s.old }
+// Adds the right half to the left half.
+fn fold(left: &mut [u8], right: &[u8])
+    requires { length left.old ≡ length right.now }
+    ensures { left.new ≡ xor_bytes left.old right.now }
 {
-    let mut i = 0;
-    while i < h {
-        s[i] = s[i] ^ s[h + i];
-        i += 1;
+    // By an index: what is written through a zip of `iter_mut` is not known afterwards.
+    for (i, x) in left.iter_mut().enumerate() {
+        *x ^= right[i];
     }
 }
 
@@ -23,9 +22,10 @@ fn steps(s: &mut [u8], n: usize)
 {
     if 0 < n {
         let h = s.len() / 2;
-        steps(&mut s[..h], n - 1);
-        steps(&mut s[h..], n - 1);
-        fold(s, h);
+        let (left, right) = s.split_at_mut(h);
+        steps(left, n - 1);
+        steps(right, n - 1);
+        fold(left, right);
     }
 }
 
@@ -33,13 +33,11 @@ fn steps(s: &mut [u8], n: usize)
 fn sized(len: usize, n: usize) -> bool
     ensures { result ≡ eqb len (2 ^ n) }
 {
-    if n > 63 {
-        return false;
-    }
-    len == 1 << n
+    n < 64 && len == 1 << n
 }
 
 // Transforms 2 to the n bytes. A slice of any other length is left as it is.
+#[tactic(auto, unfolding(crate::specs::Bytes::transformed))]
 pub fn transform(s: &mut [u8], n: usize)
     ensures { s.new ≡ transformed n s.old }
 {

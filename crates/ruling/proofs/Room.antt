@@ -1,6 +1,7 @@
 -- Whether a row has its place: the tests of `fits`, one after the other, and what `rule_row` leaves.
 --     narrow, far, short, few, low, last     each test of the code, and what the definition then says
 --     room, has_room                         what holds where all is there
+--     part_wide                              the part that is the row has w words
 --     ruled-is, ruled-not, ruled-at          what `rule_row` leaves
 use mathlib.Core.Path.{◌≡◌, refl, sym, ◌∙◌}
 use Prim.Native.Nat.{ℕ, ◌+◌, ◌-◌, ◌*◌, ◌/◌, ◌≤◌, ◌<◌}
@@ -8,7 +9,7 @@ use native.Mathlib.Omega.{arith}
 use native.Mathlib.Nat.{le-div_iff_mul-le, div-lt_iff_lt-mul}
 use mathlib.Core.Bool.{Bool, true, false}
 use mathlib.Core.List.{List}
-use lib.ListN.{length}
+use lib.ListN.{length, take, drop, length-take, length-drop}
 use lib.Seq.{paste}
 use lib.Dec.{eqb, leb, ltb}
 use borrow.Author.Tests.{lt-ltb, le-ltb, le-leb, lt-leb, ltb-true, leb-true, leb-false}
@@ -81,6 +82,9 @@ module _ (d to us sheet at c w : ℕ) where
   has_room (a, b, e) (f, g) = rw (lt-ltb c w e, lt-ltb at (8 * mask_bytes) f, le-leb ((at + 1) * record_bytes) sheet g, le-leb (at * w) us b, le-leb (to + w) d a)
 
 -- ---- what `rule_row` leaves
+
+pub part_wide : (d : List ℕ) (to w : ℕ) → to + w ≤ length d → length (take (to + w - to) (drop to d)) ≡ w
+part_wide d to w h = simp (length-take, length-drop) (omega arith)
 
 module _ (d : List ℕ) (to : ℕ) (us sheet : List ℕ) (at c w : ℕ) where
   pub ruled-is : fitting (length d) to (length us) (length sheet) at c w ≡ true → ruled d to us sheet at c w ≡ paste d to (rule_value (row_values c w) (eqb (byte sheet at 1) 1) (mask sheet at) (rows w at us)) w

@@ -1,34 +1,33 @@
--- The row of a rule, from the last position that a record can name down to the first, and the row of an unknown.
+-- The row of a rule, from the last position that a record can name down to the first.
 --     Sum, sum-start, sum_hit, sum_miss, sum_skip, sum-next, sum-all     the loop over the named positions
 --     gap_all, gap_some                              the names below a position, by words
 --     rule_one, rule_zero, rule_wide                 the constant added
---     unknown_made, unknown-none                     the row of an unknown
 use mathlib.Core.Path.{◌≡◌, refl, sym, ap, ap₂, subst, ◌∙◌}
 use mathlib.Core.Logic.{⊎_elim}
 use Prim.Native.Nat.{ℕ, zero, suc, ◌+◌, ◌-◌, ◌*◌, ◌/◌, ◌%◌, ◌^◌, ◌≤◌, ◌<◌}
 use native.Mathlib.Omega.{arith}
-use native.Mathlib.Nat.{mod-lt, mod-eq_of_lt, pow-le-pow_right}
+use native.Mathlib.Nat.{mod-lt}
 use mathlib.Core.Bool.{Bool, true, false, true≢false}
 use mathlib.Core.List.{List, [], ◌∷◌}
 use lib.ListN.{length, drop, set, get_or, replicate, length-replicate, length-set}
-use lib.Seq.{paste, set_out}
-use lib.Bits.{bit_xor}
+use lib.Seq.{paste, take_all}
+use lib.Bits.{bit_xor, xor_comm}
 use lib.Count.{count_leading_zeros}
 use lib.Dec.{eqb}
 use borrow.Author.Tests.{eq-eqb, ne_eqb}
 use Rattle.bits.specs.Vectors.{tab}
-use Rattle.bits.specs.Rows.{Row, ◌⊻◌, part, row, rows, zeroed, added}
+use Rattle.bits.specs.Rows.{Row, ◌⊻◌, row, rows, added}
 use Rattle.bits.specs.Words.{has_bit}
 use Rattle.bits.proofs.Tests.{le_or_lt}
 use Rattle.bits.proofs.WordBits.{zero_bit, leading_bit, shl_bit, shl_low}
-use Rattle.bits.proofs.RowLaws.{length_part, get_or_part, row_fit}
+use Rattle.bits.proofs.RowLaws.{length_part, row_fit}
 use Rattle.bits.proofs.RowXor.{length-⊻, ⊻-comm, nought-⊻, one_⊻}
-use Rattle.bits.proofs.RowsWritten.{paste-part, paste_again, paste-set, paste_all, length-written, zeroed-fits, added-fits}
+use Rattle.bits.proofs.RowsWritten.{paste_all, added-fits}
 use Rattle.meaning.specs.Limits.{mask_bytes}
 use Rattle.meaning.specs.Sheet.{byte, names, mask}
 use Rattle.sheet.specs.Masks.{Spelt}
 use Rattle.model.specs.Model.{gate, named, rule_value}
-use Rattle.model.specs.RowValues.{unit_row, unknown_row, row_values}
+use Rattle.model.specs.RowValues.{unit_row, row_values}
 use Rattle.ruling.specs.Ruling.{Gap}
 
 -- ---- tables
@@ -60,39 +59,21 @@ named_step : (c w : ℕ) (us sheet : List ℕ) (at j : ℕ) → j < at → at < 
 unfolding mask
 named_step c w us sheet at j p q = ap₂ (named (row_values c w)) (tab-drop (8 * mask_bytes) j (names sheet at) (omega arith)) (tab-drop at j (row w us) p)
 
--- d is d₀ with the sum from j on
-pub record Sum (w to at j : ℕ) (us sheet d₀ d : List ℕ) : Type 0 where
-  pub fit : to + w ≤ length d₀
-  pub size : length d ≡ length d₀
-  pub wide : (c : ℕ) → length (named_from c w us sheet at j) ≡ w
-  pub is : (c : ℕ) → d ≡ paste d₀ to (named_from c w us sheet at j) w
+-- d is the sum from j on
+pub record Sum (w at j : ℕ) (us sheet d : List ℕ) : Type 0 where
+  pub size : length d ≡ w
+  pub is : (c : ℕ) → d ≡ named_from c w us sheet at j
 
--- of a list d₁ the loop is given d₀, with zeros in the row's place
-module _ (w to at : ℕ) (us sheet d₁ d₀ : List ℕ) (fit : to + w ≤ length d₁) (e : d₀ ≡ zeroed d₁ to w) where
-  cleared : d₀ ≡ paste d₁ to (replicate w 0) w
-  cleared = e ∙ zeroed-fits d₁ to w fit
+pub sum-start : (w at : ℕ) (us sheet d : List ℕ) → d ≡ replicate w 0 → Sum w at at us sheet d
+sum-start w at us sheet d e = record { size = ap length e ∙ length-replicate w 0; is = λ c. e ∙ named_start c w us sheet at }
 
-  -- what is written over the zeros is written over what was there
-  over : (x : Row) → paste d₀ to x w ≡ paste d₁ to x w
-  over x = ap (λ (l : List ℕ). paste l to x w) cleared ∙ paste_again d₁ (replicate w 0) to w fit (length-replicate w 0) x
+pub sum-all : (w at j : ℕ) (us sheet d : List ℕ) → j ≤ 0 → Sum w at j us sheet d → (c : ℕ) → d ≡ named (row_values c w) (mask sheet at) (rows w at us)
+sum-all w at j us sheet d z s c =
+    let q : j ≡ 0 = omega arith in
+    s.is c ∙ ap (named_from c w us sheet at) q
 
-  pub sum-start : Sum w to at at us sheet d₀ d₀
-  sum-start =
-      let l = ap length cleared ∙ length-written d₁ (replicate w 0) to w fit (length-replicate w 0) in
-      record {
-        fit = omega arith;
-        size = refl;
-        wide = λ c. sym (ap length (named_start c w us sheet at)) ∙ length-replicate w 0;
-        is = λ c. cleared ∙ sym (over (replicate w 0)) ∙ ap (λ (x : Row). paste d₀ to x w) (named_start c w us sheet at);
-      }
-
-  pub sum-all : (j : ℕ) (d : List ℕ) → j ≤ 0 → Sum w to at j us sheet d₀ d → (c : ℕ) → d ≡ paste d₁ to (named (row_values c w) (mask sheet at) (rows w at us)) w
-  sum-all j d z s c =
-      let q : j ≡ 0 = omega arith in
-      s.is c ∙ ap (λ (i : ℕ). paste d₀ to (named_from c w us sheet at i) w) q ∙ over (named (row_values c w) (mask sheet at) (rows w at us))
-
-module _ (w to at : ℕ) (us sheet d₀ : List ℕ) (room : at * w ≤ length us) (few : at < 8 * mask_bytes) where
-  module _ (j : ℕ) (p : 0 < j) (q : j ≤ at) (d : List ℕ) (s : Sum w to at j us sheet d₀ d) where
+module _ (w at : ℕ) (us sheet : List ℕ) (room : at * w ≤ length us) (few : at < 8 * mask_bytes) where
+  module _ (j : ℕ) (p : 0 < j) (q : j ≤ at) (d : List ℕ) (s : Sum w at j us sheet d) where
     abbrev last : Row
     last = row w us (j - 1)
 
@@ -104,45 +85,43 @@ module _ (w to at : ℕ) (us sheet d₀ : List ℕ) (room : at * w ≤ length us
         let back : suc (j - 1) ≡ j = omega arith in
         named_step c w us sheet at (j - 1) (omega arith) few ∙ ap₂ (λ (t : Bool) (i : ℕ). gate (row_values c w) t last ⊻ named_from c w us sheet at i) b back
 
-    pub sum_hit : names sheet at (j - 1) ≡ true → (d' : List ℕ) → length d' ≡ length d → d' ≡ added d to us ((j - 1) * w) w → Sum w to at (j - 1) us sheet d₀ d'
-    sum_hit b d' l e =
+    pub sum_hit : names sheet at (j - 1) ≡ true → (d' : List ℕ) → d' ≡ added d 0 us ((j - 1) * w) w → Sum w at (j - 1) us sheet d'
+    sum_hit b d' e =
         let f = row_fit (j - 1) at w (omega arith) in
-        let n : ℕ → Row = λ c. named_from c w us sheet at j in
-        let there : (c : ℕ) → part w to d ≡ n c = λ c. ap (part w to) (s.is c) ∙ paste-part d₀ (n c) to w s.fit (s.wide c) in
         let ld = s.size in
-        let fit = s.fit in
+        let ls : length (d ⊻ last) ≡ w = length-⊻ d last w s.size last-wide in
+        let whole : d' ≡ d ⊻ last =
+        e ∙ added-fits d 0 us ((j - 1) * w) w (omega arith) (omega arith) ∙ ap (λ (y : Row). paste d 0 (y ⊻ last) w) (take_all w d (omega arith)) ∙ paste_all d (d ⊻ last) w s.size ls in
         record {
-          fit = s.fit;
-          size = l ∙ s.size;
-          wide = λ c. ap length (sum_step c true b) ∙ length-⊻ last (n c) w last-wide (s.wide c);
-          is = λ c. e ∙ added-fits d to us ((j - 1) * w) w (omega arith) (omega arith)
-              ∙ ap₂ (λ (k : List ℕ) (y : Row). paste k to (y ⊻ last) w) (s.is c) (there c) ∙ paste_again d₀ (n c) to w fit (s.wide c) (n c ⊻ last)
-              ∙ ap (λ (y : Row). paste d₀ to y w) (⊻-comm (n c) last ∙ sym (sum_step c true b));
+          size = ap length whole ∙ ls;
+          is = λ c. whole ∙ ⊻-comm d last ∙ ap (λ (y : Row). last ⊻ y) (s.is c) ∙ sym (sum_step c true b);
         }
 
-    pub sum_miss : names sheet at (j - 1) ≡ false → Sum w to at (j - 1) us sheet d₀ d
+    pub sum_miss : names sheet at (j - 1) ≡ false → Sum w at (j - 1) us sheet d
     sum_miss b =
-        let same : (c : ℕ) → named_from c w us sheet at (j - 1) ≡ named_from c w us sheet at j = λ c. sum_step c false b ∙ nought-⊻ w (named_from c w us sheet at j) (s.wide c) in
-        record { fit = s.fit; size = s.size; wide = λ c. ap length (same c) ∙ s.wide c; is = λ c. s.is c ∙ ap (λ (y : Row). paste d₀ to y w) (sym (same c)) }
+        record {
+          size = s.size;
+          is = λ c. s.is c ∙ sym (sum_step c false b ∙ nought-⊻ w (named_from c w us sheet at j) (sym (ap length (s.is c)) ∙ s.size));
+        }
 
   -- several positions passed over at once
-  pub sum_skip : (k i : ℕ) → i ≤ at → k ≤ i → ((t : ℕ) → t < k → names sheet at (i - suc t) ≡ false) → (d : List ℕ) → Sum w to at i us sheet d₀ d → Sum w to at (i - k) us sheet d₀ d
-  sum_skip zero i a l f d s = subst (λ (x : ℕ). Sum w to at x us sheet d₀ d) (let e : i ≡ i - 0 = omega arith in e) s
+  pub sum_skip : (k i : ℕ) → i ≤ at → k ≤ i → ((t : ℕ) → t < k → names sheet at (i - suc t) ≡ false) → (d : List ℕ) → Sum w at i us sheet d → Sum w at (i - k) us sheet d
+  sum_skip zero i a l f d s = subst (λ (x : ℕ). Sum w at x us sheet d) (let e : i ≡ i - 0 = omega arith in e) s
   sum_skip (suc k) i a l f d s =
       let e : (t : ℕ) → i - 1 - suc t ≡ i - suc (suc t) = λ t. omega arith in
       let o : i - 1 ≡ i - suc 0 = omega arith in
       let z : i - 1 - k ≡ i - suc k = omega arith in
-      subst (λ (x : ℕ). Sum w to at x us sheet d₀ d) z
+      subst (λ (x : ℕ). Sum w at x us sheet d) z
       (sum_skip k (i - 1) (omega arith) (omega arith) (λ t p. ap (names sheet at) (e t) ∙ f (suc t) (omega arith)) d (sum_miss i (omega arith) a d s (ap (names sheet at) o ∙ f 0 (omega arith))))
 
   -- and the one below them named
-  pub sum-next : (k i : ℕ) → i ≤ at → suc k ≤ i → Gap sheet at i k → k ≤ (i - 1) % 64 → (d : List ℕ) → Sum w to at i us sheet d₀ d
-      → (d' : List ℕ) → length d' ≡ length d → d' ≡ added d to us ((i - (k + 1)) * w) w → Sum w to at (i - (k + 1)) us sheet d₀ d'
-  sum-next k i a l g h d s d' n e =
+  pub sum-next : (k i : ℕ) → i ≤ at → suc k ≤ i → Gap sheet at i k → k ≤ (i - 1) % 64 → (d : List ℕ) → Sum w at i us sheet d
+      → (d' : List ℕ) → d' ≡ added d 0 us ((i - (k + 1)) * w) w → Sum w at (i - (k + 1)) us sheet d'
+  sum-next k i a l g h d s d' e =
       let o : i - (k + 1) ≡ i - k - 1 = omega arith in
       let z : i - suc k ≡ i - k - 1 = omega arith in
-      subst (λ (x : ℕ). Sum w to at x us sheet d₀ d') (sym o)
-      (sum_hit (i - k) (omega arith) (omega arith) d (sum_skip k i a (omega arith) g.unnamed d s) (ap (names sheet at) (sym z) ∙ g.found h) d' n (e ∙ ap (λ (x : ℕ). added d to us (x * w) w) o))
+      subst (λ (x : ℕ). Sum w at x us sheet d') (sym o)
+      (sum_hit (i - k) (omega arith) (omega arith) d (sum_skip k i a (omega arith) g.unnamed d s) (ap (names sheet at) (sym z) ∙ g.found h) d' (e ∙ ap (λ (x : ℕ). added d 0 us (x * w) w) o))
 
 -- ---- the names below a position, by words
 
@@ -202,41 +181,17 @@ module _ (c w : ℕ) (us : List ℕ) (at : ℕ) (room : at * w ≤ length us) (s
   rule_wide true = length-⊻ (unit_row c w) sum_row w (length-set (replicate w 0) c 1 ∙ length-replicate w 0) named-wide
   rule_wide false = length-⊻ (replicate w 0) sum_row w (length-replicate w 0) named-wide
 
-  module _ (cw : c < w) (to : ℕ) (d₀ d : List ℕ) (fit : to + w ≤ length d₀) (e : d ≡ paste d₀ to sum_row w) (k : ℕ) (ek : k ≡ byte sheet at 1) where
+  module _ (cw : c < w) (d : List ℕ) (e : d ≡ sum_row) (k : ℕ) (ek : k ≡ byte sheet at 1) where
     abbrev meant : Row
     meant = rule_value (row_values c w) (eqb (byte sheet at 1) 1) (mask sheet at) (rows w at us)
 
-    pub rule_one : k ≡ 1 → set d (to + c) (bit_xor 1 (get_or d (to + c) 0)) ≡ paste d₀ to meant w
+    pub rule_one : k ≡ 1 → set d c (bit_xor (get_or d c 0) 1) ≡ meant
     rule_one b =
-        let lw = named-wide in
-        let g : get_or d (to + c) 0 ≡ get_or sum_row c 0 = sym (get_or_part d to w c cw) ∙ ap (λ (x : Row). get_or x c 0) (ap (part w to) e ∙ paste-part d₀ sum_row to w fit lw) in
-        ap₂ (λ (k : List ℕ) (z : ℕ). set k (to + c) (bit_xor 1 z)) e g ∙ paste-set d₀ sum_row to w fit lw c (bit_xor 1 (get_or sum_row c 0)) cw
-        ∙ ap (λ (x : Row). paste d₀ to x w) (sym (one_⊻ w c 1 sum_row cw lw))
-        ∙ ap (λ (t : Bool). paste d₀ to (gate (row_values c w) t (unit_row c w) ⊻ sum_row) w) (sym (eq-eqb (byte sheet at 1) 1 (sym ek ∙ b)))
+        ap (set d c) (xor_comm (get_or d c 0) 1) ∙ ap (λ (l : List ℕ). set l c (bit_xor 1 (get_or l c 0))) e
+        ∙ sym (one_⊻ w c 1 sum_row cw named-wide)
+        ∙ ap (λ (t : Bool). gate (row_values c w) t (unit_row c w) ⊻ sum_row) (sym (eq-eqb (byte sheet at 1) 1 (sym ek ∙ b)))
 
-    pub rule_zero : (k ≡ 1 → ⊥) → d ≡ paste d₀ to meant w
+    pub rule_zero : (k ≡ 1 → ⊥) → d ≡ meant
     rule_zero b =
-        e ∙ ap (λ (x : Row). paste d₀ to x w) (sym (nought-⊻ w sum_row named-wide))
-        ∙ ap (λ (t : Bool). paste d₀ to (gate (row_values c w) t (unit_row c w) ⊻ sum_row) w) (sym (ne_eqb (byte sheet at 1) 1 (λ z. b (ek ∙ z))))
-
--- ---- the row of an unknown
-
--- a 1 shifted within a word
-shifted : (k : ℕ) → 1 * 2 ^ (k % 64) % 18446744073709551616 ≡ 2 ^ (k % 64)
-shifted k =
-    let e : 1 * 2 ^ (k % 64) ≡ 2 ^ (k % 64) = omega arith in
-    let l : k % 64 < 64 = mod-lt k (omega arith) in
-    let g : 2 ^ (k % 64) ≤ 2 ^ 63 = pow-le-pow_right {n = 2} (omega arith) {i = k % 64} {j = 63} (omega arith) in
-    let h : 2 ^ (k % 64) < 18446744073709551616 = omega arith in
-    rw e (mod-eq_of_lt h)
-
-module _ (d d₁ : List ℕ) (k : ℕ) (e : d₁ ≡ zeroed d 0 (length d)) where
-  blank : d₁ ≡ replicate (length d) 0
-  blank = e ∙ zeroed-fits d 0 (length d) (omega arith) ∙ paste_all d (replicate (length d) 0) (length d) refl (length-replicate (length d) 0)
-
-  pub unknown_made : set d₁ (k / 64) (1 * 2 ^ (k % 64) % 18446744073709551616) ≡ unknown_row (length d) k
-  unknown_made = ap₂ (λ (l : List ℕ) (z : ℕ). set l (k / 64) z) blank (shifted k)
-
-  -- no word for it
-  pub unknown-none : length d ≤ k / 64 → d₁ ≡ unknown_row (length d) k
-  unknown-none h = blank ∙ sym (set_out (replicate (length d) 0) (k / 64) (2 ^ (k % 64)) (rw (length-replicate {A = ℕ} (length d) 0) h))
+        e ∙ sym (nought-⊻ w sum_row named-wide)
+        ∙ ap (λ (t : Bool). gate (row_values c w) t (unit_row c w) ⊻ sum_row) (sym (ne_eqb (byte sheet at 1) 1 (λ z. b (ek ∙ z))))

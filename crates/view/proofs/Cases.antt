@@ -2,7 +2,6 @@
 --     none_large, none-behind, none_other     it has none: n above the largest, a position of N or more, another length
 --     there                                   else it has one
 --     view_none, view_there                   what a view without a record is, and one with a record
---     strip-fits                              the bytes of a strip can be counted
 use mathlib.Core.Path.{◌≡◌, refl, ap}
 use Prim.Native.Nat.{ℕ, ◌+◌, ◌-◌, ◌*◌, ◌^◌, ◌≤◌, ◌<◌}
 use native.Mathlib.Omega.{arith}
@@ -10,7 +9,6 @@ use mathlib.Core.Bool.{Bool, true, false, ◌&&◌}
 use mathlib.Core.List.{List, []}
 use lib.ListN.{length, take, drop}
 use lib.Dec.{eqb, leb, ltb}
-use lib.Pow.{pow_mono}
 use borrow.Author.Tests.{lt-ltb, le-ltb, le-leb, lt-leb, eq-eqb, ne_eqb}
 use denote.Ref.{Bor}
 use Rattle.bits.proofs.Tests.{and-false}
@@ -46,7 +44,3 @@ module _ (strip : Bor (List ℕ)) (n at : ℕ) where
   view_there h k e =
       let s : k + cartridge_bytes - k ≡ cartridge_bytes = omega arith in
       (rw (h, s, e) refl, rw h (ap {B = ℕ × ℕ} (λ (o : ℕ). (strip.ref_ptr.0, o)) (omega arith)))
-
-pub strip-fits : (n : ℕ) → n ≤ largest_n → 2 ^ n * cartridge_bytes ≤ 32768
-unfolding largest_n cartridge_bytes
-strip-fits n h = let p = pow_mono {i = n} {j = 9} h in omega arith

@@ -2,14 +2,17 @@
 // strip as a plain slice, and any caller can use it. `Lent` holds the strip, for views of its cartridges.
 #![tactic(auto)]
 
-ghost use Rattle.std.specs.Prelude.{◌≡◌, ◌^◌, ◌≤◌};
+ghost use Rattle.std.specs.Prelude.{◌≡◌, ◌+◌, ◌*◌, ◌^◌, ◌≤◌, true, false, MatchOption};
 ghost use Rattle.meaning.specs.Limits.{largest_n};
-ghost use Rattle.view.specs.Viewing.{record_of, place_of};
+ghost use Rattle.view.specs.Viewing.{cartridge_bytes, has_record, record_of, place_of};
 
 use meaning::limits;
 
 // Bytes of a cartridge's record.
 pub const BYTES: usize = 64;
+
+// The largest n of a strip.
+const LARGEST: usize = limits::LARGEST_N;
 
 // N, 2 to the n.
 fn size_of(n: usize) -> usize
@@ -19,24 +22,37 @@ fn size_of(n: usize) -> usize
     1 << n
 }
 
+// Where the record of cartridge `at` starts in a strip of `len` bytes. There is none with n above limits::LARGEST_N, at a
+// position of N or more, and in a strip that is not N records long.
+fn start_of(len: usize, n: usize, at: usize) -> Option<usize>
+    ensures { MatchOption result (has_record n at len ≡ false) (λ start. (has_record n at len ≡ true) × (start ≡ at * cartridge_bytes) × (start + cartridge_bytes ≤ len)) }
+{
+    if LARGEST < n {
+        return None;
+    }
+    let size = size_of(n);
+    if size <= at {
+        return None;
+    }
+    if len != size * BYTES {
+        return None;
+    }
+    let start = at * BYTES;
+    Some(start)
+}
+
 // The record of cartridge `at`, as a part of the strip. It is empty with n above limits::LARGEST_N, at a position of N or
 // more, and of a strip that is not N records long.
 pub fn record<'a>(strip: &'a [u8], n: usize, at: usize) -> &'a [u8]
     ensures { (result.now ≡ record_of strip.now n at) × (result.ref_ptr ≡ place_of strip.entry n at) }
 {
-    if limits::LARGEST_N < n {
-        return &strip[..0];
+    match start_of(strip.len(), n, at) {
+        Some(start) => {
+            let end = start + BYTES;
+            &strip[start..end]
+        }
+        None => &strip[..0],
     }
-    let size = size_of(n);
-    if size <= at {
-        return &strip[..0];
-    }
-    if strip.len() != size * BYTES {
-        return &strip[..0];
-    }
-    let start = at * BYTES;
-    let end = start + BYTES;
-    &strip[start..end]
 }
 
 // A lent strip of 2 to the n records.
@@ -53,7 +69,7 @@ pub fn view<'a>(strip: &'a [u8], n: usize) -> Lent<'a>
     Lent { strip, n }
 }
 
-// The record of cartridge `at` of a lent strip.
+// The record of cartridge `at` of a lent strip. A function beside `view`, and no method: README names both so.
 pub fn cartridge<'a>(v: Lent<'a>, at: usize) -> &'a [u8]
     ensures { (result.now ≡ record_of v.entry.strip.now v.entry.n at) × (result.ref_ptr ≡ place_of v.entry.strip v.entry.n at) }
 {

@@ -1,13 +1,13 @@
-use Rattle.counting.proofs.Counting.{one_frozen, one_open, one_closed}
-use mathlib.Core.Path.{ap}
-use mathlib.Core.Bool.{not}
+use mathlib.Core.Path.{ap, ◌∙◌}
+use mir.Val.{bool_byte}
+use Rattle.counting.proofs.Counting.{one_frozen, one_free}
 use Rattle.counting.proofs.one.Goals as goal
+use Rattle.counting.proofs.one.Goals.{then-free, else-free}
 
-pub returns-then-not-is_free : goal.returns-then-not-is_free
-returns-then-not-is_free c = one_frozen _ _ _ c.is_free.ensures (ap not c.if-not-is_free.true)
-
-pub returns-then-s-gt1 : goal.returns-then-s-gt1
-returns-then-s-gt1 c = one_open _ _ _ c.is_free.ensures (ap not c.if-not-is_free.false) c.if-s-gt1.true
-
-pub returns-else-s-gt1 : goal.returns-else-s-gt1
-returns-else-s-gt1 c = one_closed _ _ _ c.is_free.ensures (ap not c.if-not-is_free.false) c.if-s-gt1.false
+pub returns : goal.returns
+returns c =
+    let e = c.is_free-free.ensures in
+    elim c.if-free.branch [
+      | then-free w ↦ c.from.ensures ∙ ap bool_byte w.from-is ∙ one_free _ _ _ e w.if-free.true
+      | else-free w ↦ c.from.ensures ∙ ap bool_byte (w.from-is ∙ w.if-free.false) ∙ one_frozen _ _ _ e w.if-free.false
+    ]

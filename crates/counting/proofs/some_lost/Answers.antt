@@ -1,18 +1,12 @@
-use mathlib.Core.Path.{refl, sym, ◌∙◌}
-use native.Mathlib.Omega.{arith}
-use Rattle.counting.proofs.Counting.{lost_here, lost-later, lost_end}
+use mathlib.Core.Path.{◌∙◌}
+use Rattle.std.proofs.lemmas.Iterator.{YieldsList-from_slice}
+use Rattle.std.proofs.lemmas.Iterator.Search.{any_from_yields_List}
+use Rattle.std.proofs.Common.{rules}
+use lib.Dec.{ltb}
+use borrow.Author.Tests.{tests}
+use Rattle.counting.proofs.Counting.{lost_any}
 use Rattle.counting.proofs.some_lost.Goals as goal
 
-pub loop-j-init : goal.loop-j-init
-loop-j-init c = (omega arith, refl)
-
-pub returns-then-marks-j-gt1 : goal.returns-then-marks-j-gt1
-returns-then-marks-j-gt1 c =
-    lost_here _ _ c.loop-j-test.true c.if-marks-j-gt1.true ∙ c.loop-j.invariant.1
-
-pub loop-j-preserved : goal.loop-j-preserved
-loop-j-preserved c =
-    (omega arith, lost-later _ _ c.loop-j-test.true c.if-marks-j-gt1.false ∙ c.loop-j.invariant.1)
-
 pub returns : goal.returns
-returns c = sym (lost_end _ _ c.loop-j-test.false) ∙ c.loop-j.invariant.1
+returns c =
+    any_from_yields_List (λ a. ltb 1 a) _ _ _ c.any.ensures.ran (YieldsList-from_slice c.args.marks.now cc) (λ x b q k. search (rules, tests)) ∙ lost_any c.args.marks.now

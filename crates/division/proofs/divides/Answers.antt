@@ -1,15 +1,9 @@
-use mathlib.Core.Path.{sym, ◌∙◌}
-use borrow.Author.Tests.{not-true, not-false}
-use Rattle.division.proofs.Checking.{known, dividing-not, fed-tells}
-use mathlib.Core.Path.{ap}
-use mathlib.Core.Bool.{not}
+use mathlib.Core.Path.{sym}
+use Rattle.division.proofs.Checking.{dividing-not, fed-tells}
 use Rattle.division.proofs.divides.Goals as goal
 
-pub returns-then-not-listed : goal.returns-then-not-listed
-returns-then-not-listed c = sym (dividing-not _ _ (sym c.listed.ensures ∙ not-true _ (ap not c.if-not-listed.true)))
+pub returns-in-Some : goal.returns-in-Some
+returns-in-Some c = let e = c.in-Some.ensures in fed-tells _ _ _ (rw e at c.in-Some.check.known) (rw e at c.feed.ensures)
 
-pub feed-requires : goal.feed-requires
-feed-requires c = known _ (sym c.listed.ensures ∙ not-false _ (ap not c.if-not-listed.false))
-
-pub returns : goal.returns
-returns c = fed-tells _ _ _ (sym c.listed.ensures ∙ not-false _ (ap not c.if-not-listed.false)) c.feed.ensures
+pub returns-in-None : goal.returns-in-None
+returns-in-None c = sym (dividing-not _ _ c.in-None.ensures)

@@ -1,4 +1,3 @@
-use native.Mathlib.Omega.{arith}
 use Rattle.meaning.specs.Limits.{record_bytes, mask_bytes}
 use Rattle.ruling.proofs.Room.{narrow, far, short, few, low, last}
 use Rattle.ruling.proofs.fits.Goals as goal
@@ -13,9 +12,6 @@ returns-then-at-ge-POSITIONS c = far _ _ _ _ _ _ _ c.if-w-c.false c.if-at-ge-POS
 pub returns-then-sheet-at : goal.returns-then-sheet-at
 unfolding record_bytes mask_bytes
 returns-then-sheet-at c = short _ _ _ _ _ _ _ c.if-w-c.false c.if-at-ge-POSITIONS.false c.if-sheet-at.true
-
-pub nonzero_div-us : goal.nonzero_div-us
-nonzero_div-us c = omega (arith, c.if-w-c.false)
 
 pub returns-then-us-w : goal.returns-then-us-w
 unfolding record_bytes mask_bytes
