@@ -1,6 +1,5 @@
 -- Rows written column by column.
 --     Putting, ..          one column, written so far
---     columns_next         one column more
 --     column_bound         column k of the check's rows is the check over words
 --     columns_all          where all columns are, the words are the check's rows
 use mathlib.Core.Path.{◌≡◌, refl, sym, ap, ap₂, ◌∙◌, subst}
@@ -23,7 +22,7 @@ use Rattle.meaning.specs.Sheet.{rules}
 use Rattle.model.specs.Related.{Along, nil, cons, Bound}
 use Rattle.model.proofs.Relate.{along_length, checks_bound}
 use Rattle.model.specs.RowValues.{row_values}
-use Rattle.checks.specs.Registers.{word_values, unit_word, column, remainder, Put, ColumnsUpTo}
+use Rattle.checks.specs.Registers.{word_values, unit_word, column, remainder, ColumnsUpTo}
 use Rattle.checks.specs.Checking.{check_of}
 use Rattle.checks.proofs.Shifting.{checks-is, length-remainder}
 
@@ -52,9 +51,6 @@ module _ (w k : ℕ) (s e₀ : List ℕ) where
     pub new : (i : ℕ) → i < j → get_or e (i * w + k) 0 ≡ get_or s i 0
     pub old : (i q : ℕ) → q < w → (q ≡ k → ⊥) → get_or e (i * w + q) 0 ≡ get_or e₀ (i * w + q) 0
 
-  pub putting_none : Putting e₀ 0
-  putting_none = record { some = omega arith; size = refl; new = λ i h. absurd (omega arith); old = λ i q h n. refl }
-
   -- where word k of row j is
   pub put-room : (j : ℕ) → length e₀ ≡ length s * w → k < w → j < length s → j * w + k < length e₀
   put-room j l hk h = let f = row_fit j (length s) w h in omega arith
@@ -74,25 +70,6 @@ module _ (w k : ℕ) (s e₀ : List ℕ) where
             (last_or i j hi);
         old = λ i q hq n. get_or-set_other e (j * w + k) (i * w + q) z 0 (λ x. n (place_one i j q k w hq hk x).1) ∙ p.old i q hq n;
       }
-
-  pub putting_all : (e : List ℕ) (j : ℕ) → Putting e j → length s ≤ j → Put w k s e₀ e
-  putting_all e j p h = record { new = λ i q. p.new i (omega arith); old = p.old }
-
--- ---- all columns
-
-pub columns_next : (r w : ℕ) (f : ℕ → List ℕ) (k : ℕ) (s e₀ e : List ℕ) → ColumnsUpTo r w f k e₀ → Put w k s e₀ e → s ≡ f k → length s ≡ r → k < w → ColumnsUpTo r w f (k + 1) e
-columns_next r w f k s e₀ e p u q l hk j x hj hx =
-    ⊎_elim
-    (λ (i : x < k). u.old j x (omega arith) (λ n. omega arith) ∙ p j x hj i)
-    (λ (i : x ≡ k). rw i (u.new j (omega arith) ∙ ap (λ (y : List ℕ). get_or y j 0) q))
-    (last_or x k hx)
-
-pub columns_last : (r w : ℕ) (f : ℕ → List ℕ) (k : ℕ) (e : List ℕ) → w ≤ k → ColumnsUpTo r w f k e → ColumnsUpTo r w f w e
-columns_last r w f k e h p j q hj hq = p j q hj (omega arith)
-
--- for a register whose length is known as r
-pub columns_long : (l r : ℕ) (sheet : List ℕ) (n : ℕ) (us : List ℕ) (w c : ℕ) (e : List ℕ) → l ≡ r → ColumnsUpTo l w (remainder l sheet n us w c) w e → ColumnsUpTo r w (remainder r sheet n us w c) w e
-columns_long l r sheet n us w c e q p = subst (λ (x : ℕ). ColumnsUpTo x w (remainder x sheet n us w c) w e) q p
 
 -- ---- column k of the check's rows
 

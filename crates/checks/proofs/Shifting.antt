@@ -2,7 +2,6 @@
 --     no_term                  there are check polynomials of length 6 and 11 alone
 --     fed-is, checks-is        the code's register is the model's, over words
 --     fed-tapped, ..-tapped    a shift is a move and then the terms, one by one
---     Started, started-..      the register with its first words set
 --     Dividing, dividing-..    the free positions of a column, fed so far
 use mathlib.Core.Path.{◌≡◌, refl, sym, ap, ap₂, ◌∙◌}
 use Prim.Native.Nat.{ℕ, zero, suc, ◌+◌, ◌*◌, ◌≤◌, ◌<◌}
@@ -10,14 +9,13 @@ use native.Mathlib.Omega.{arith}
 use native.Mathlib.Numerals.{add-one}
 use mathlib.Core.Bool.{Bool, true, false}
 use mathlib.Core.List.{List, [], ◌∷◌, ◌++◌, append-nil, append_assoc}
-use lib.ListN.{length-set, get_or-append, length, take, drop, get_or, set, replicate, length-append, length-map, length-replicate, replicate-append-replicate, drop_of_length-le}
-use lib.Seq.{get_or_at, ext_get_or, drop-cons, take-suc-set, take_all}
+use lib.ListN.{get_or-append, length, drop, get_or, replicate, length-append, length-map, length-replicate, drop_of_length-le}
+use lib.Seq.{get_or_at, ext_get_or, drop-cons}
 use lib.Dec.{eqb, ltb}
 use lib.Bits.{bit_xor, xor_zero_r}
 use borrow.Author.Tests.{ne_eqb, ltb-true, ltb-false}
 use Rattle.bits.specs.Vectors.{pick, tab}
 use Rattle.bits.proofs.Tests.{length-tab, tab-at, tab_below}
-use Rattle.bits.proofs.RowLaws.{row_fit}
 use Rattle.meaning.specs.Limits.{leads}
 use Rattle.meaning.specs.Sheet.{Rule, rule_at, byte}
 use Rattle.meaning.specs.Check.{poly}
@@ -158,31 +156,6 @@ eleven_tapped (x₀ ∷ x₁ ∷ x₂ ∷ x₃ ∷ x₄ ∷ x₅ ∷ x₆ ∷ x�
 eleven_tapped [] o e = absurd (omega arith)
 eleven_tapped (x₀ ∷ x₁ ∷ x₂ ∷ x₃ ∷ x₄ ∷ x₅ ∷ x₆ ∷ x₇ ∷ x₈ ∷ x₉ ∷ y₀ ∷ y₁ ∷ s) o e = absurd (omega arith)
 
--- ---- the register at the start
-
--- the register, its first j words x
-pub record Started (x : ℕ) (s reg : List ℕ) (j : ℕ) : Type 0 where
-  pub is : take j reg ≡ replicate j x
-  pub some : j ≤ length s
-  pub size : length reg ≡ length s
-
-pub started_next : (x : ℕ) (s reg : List ℕ) (j : ℕ) → Started x s reg j → j < length s → Started x s (set reg j x) (j + 1)
-started_next x s reg j p h =
-    record {
-      is = ap (λ (m : ℕ). take m (set reg j x)) (add-one j) ∙ take-suc-set reg j x (omega (arith, p.size)) ∙ ap (λ (l : List ℕ). l ++ (x ∷ [])) p.is ∙ replicate-append-replicate j 1 x;
-      some = omega arith;
-      size = length-set reg j x ∙ p.size;
-    }
-
-pub started_all : (x : ℕ) (s reg : List ℕ) (j : ℕ) → Started x s reg j → length s ≤ j → reg ≡ replicate (length s) x
-started_all x s reg j p h =
-    let e : j ≡ length s = omega (arith, p.some) in
-    sym (take_all j reg (omega (arith, p.size))) ∙ p.is ∙ ap (λ (m : ℕ). replicate m x) e
-
--- a register that is all x, by its own length
-pub started_own : (m : ℕ) (reg : List ℕ) (x y : ℕ) → reg ≡ replicate m x → x ≡ y → reg ≡ replicate (length reg) y
-started_own m reg x y e q = e ∙ ap₂ (λ (l z : ℕ). replicate l z) (sym (ap length e ∙ length-replicate m x)) q
-
 -- ---- the free positions of a column, fed one after the other
 
 module _ (r : ℕ) (sheet : List ℕ) (n : ℕ) (us : List ℕ) (w c k : ℕ) where
@@ -194,17 +167,11 @@ module _ (r : ℕ) (sheet : List ℕ) (n : ℕ) (us : List ℕ) (w c k : ℕ) wh
 
   -- what is left to feed, when i positions are done
   pub record Dividing (reg : List ℕ) (i : ℕ) : Type 0 where
-    pub some : i ≤ n
-    pub size : length reg ≡ r
     pub left : fed_all r reg (free_of (drop i ks) (drop i vs)) ≡ remainder r sheet n us w c k
 
   pub dividing-none : (reg : List ℕ) → reg ≡ replicate r (unit_word c k) → Dividing reg 0
   unfolding remainder
-  dividing-none reg e = record { some = omega arith; size = ap length e ∙ length-replicate r (unit_word c k); left = ap (λ (s : List ℕ). fed_all r s (free_of ks vs)) e }
-
-  -- where word k of row i is
-  pub column-room : (i : ℕ) → length us ≡ n * w → k < w → i < n → i * w + k < length us
-  column-room i l hk h = let f = row_fit i n w h in omega arith
+  dividing-none reg e = record { left = ap (λ (s : List ℕ). fed_all r s (free_of ks vs)) e }
 
   words-at : (i : ℕ) → i < n → drop i vs ≡ get_or us (i * w + k) 0 ∷ drop (suc i) vs
   words-at i h =
@@ -212,21 +179,15 @@ module _ (r : ℕ) (sheet : List ℕ) (n : ℕ) (us : List ℕ) (w c k : ℕ) wh
       drop-cons vs i 0 (omega (arith, length-tab n f)) ∙ ap {B = List ℕ} (λ x. x ∷ drop (suc i) vs) (tab-at n f i 0 h)
 
   module _ (reg : List ℕ) (i : ℕ) {t : Bool} (p : Dividing reg i) (h : i < n) (e : t ≡ eqb (byte sheet i 0) 0) where
-    pub dividing-free : t ≡ true → (reg' : List ℕ) → reg' ≡ fed (length reg) reg (get_or us (i * w + k) 0) → Dividing reg' (i + 1)
+    pub dividing-free : t ≡ true → (reg' : List ℕ) → reg' ≡ fed r reg (get_or us (i * w + k) 0) → Dividing reg' (i + 1)
     dividing-free z reg' q =
-        let b = get_or us (i * w + k) 0 in
-        let x : reg' ≡ fed r reg b = q ∙ ap (λ (l : ℕ). fed l reg b) p.size in
-        let cut : free_of (drop i ks) (drop i vs) ≡ b ∷ free_of (drop (suc i) ks) (drop (suc i) vs) = rw (rules-at sheet n i h, rule_free sheet i e z, words-at i h) in
-        record {
-          some = omega arith;
-          size = ap length x ∙ length-fed r reg b;
-          left = rw (add-one i, x) (sym (ap (fed_all r reg) cut) ∙ p.left);
-        }
+        let cut : free_of (drop i ks) (drop i vs) ≡ get_or us (i * w + k) 0 ∷ free_of (drop (suc i) ks) (drop (suc i) vs) = rw (rules-at sheet n i h, rule_free sheet i e z, words-at i h) in
+        record { left = rw (add-one i, q) (sym (ap (fed_all r reg) cut) ∙ p.left) }
 
     pub dividing-frozen : t ≡ false → Dividing reg (i + 1)
     dividing-frozen z =
         let cut : free_of (drop i ks) (drop i vs) ≡ free_of (drop (suc i) ks) (drop (suc i) vs) = rw (rules-at sheet n i h, rule_frozen sheet i e z, words-at i h) in
-        record { some = omega arith; size = p.size; left = rw (add-one i) (sym (ap (fed_all r reg) cut) ∙ p.left) }
+        record { left = rw (add-one i) (sym (ap (fed_all r reg) cut) ∙ p.left) }
 
   pub dividing-all : (reg : List ℕ) (i : ℕ) → Dividing reg i → n ≤ i → reg ≡ remainder r sheet n us w c k
   dividing-all reg i p h =

@@ -13,7 +13,7 @@ use Rattle.bits.proofs.Tests.{and_l, and_r}
 use Rattle.meaning.specs.Limits.{largest_n}
 use Rattle.meaning.specs.Answers.{check_length}
 use Rattle.sheet.specs.Shapes.{positions, recorded}
-use Rattle.sheet.proofs.Shapes.{recorded-true, positions-all, check-length-most}
+use Rattle.sheet.proofs.Shapes.{recorded-true, positions-all}
 use Rattle.descent.specs.Descending.{widest}
 use Rattle.checks.specs.Checking.{spaced, check_fits}
 
@@ -83,7 +83,7 @@ spaced-true r c w m e h =
 
 pub record Ready (n s r c w u m e : ℕ) : Type 0 where
   pub small : n ≤ largest_n
-  pub short : r ≤ 11
+  pub known : check_length r ≡ true
   pub narrow : w ≤ widest
   pub constant : c < w
   pub room : (m + r) * w ≤ e
@@ -98,7 +98,7 @@ ready n s r c w u m e h =
     let (x, y, z) = spaced-true r c w m e (and_l _ _ l) in
     record {
       small = a;
-      short = check-length-most r (and_l _ _ k);
+      known = and_l _ _ k;
       narrow = x;
       constant = y;
       room = z;

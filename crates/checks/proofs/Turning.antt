@@ -3,22 +3,23 @@
 --     at-turned, length-turned         the words of the ring
 --     turned-plus                      a word added at one place
 --     turned-next                      a word put in for the one that goes out
---     taps_six, taps_eleven, taps_none     the terms of the check polynomial
+--     plus_all, plus_end               a word added at several places
+--     taps_all                         the places of the check polynomial's terms
 --     fed_ring                         all of a shift
-use mathlib.Core.Path.{◌≡◌, refl, sym, ap, ap₂, ◌∙◌}
+use mathlib.Core.Path.{◌≡◌, refl, sym, ap, ap₂, subst, ◌∙◌}
 use mathlib.Core.Logic.{◌⊎◌, inl, inr, ⊎_elim}
 use Prim.Native.Nat.{ℕ, suc, ◌+◌, ◌-◌, ◌≤◌, ◌<◌}
 use native.Mathlib.Omega.{arith}
 use mathlib.Core.Bool.{Bool, false}
-use mathlib.Core.List.{List, [], ◌∷◌, ◌++◌, append-nil}
-use lib.ListN.{length, take, drop, get_or, set, length-set, length-append, length-drop, get_or-append}
+use mathlib.Core.List.{List, [], ◌∷◌, ◌++◌}
+use lib.ListN.{length, take, drop, get_or, set, length-set, length-append, length-drop, get_or-append, drop_of_length-le}
 use lib.Seq.{get_or-append-add, get_or-drop, get_or-take, get_or_at, get_or-set_same, get_or-set_other, ext_get_or, length-take-le}
 use lib.Bits.{bit_xor, xor_zero_r}
-use borrow.Author.Tests.{lt-ltb, le-ltb}
+use borrow.Author.Tests.{lt-ltb, le-ltb, ne_eqb}
 use Rattle.bits.specs.Vectors.{pick, tab}
 use Rattle.bits.proofs.Tests.{tab-get_or, eq_or_ne, le_or_lt}
 use Rattle.meaning.specs.Check.{poly}
-use Rattle.checks.specs.Registers.{slot, turned, plus_at, tapped, fed}
+use Rattle.checks.specs.Registers.{slot, turned, taps, plus_at, tapped, fed}
 use Rattle.checks.proofs.Shifting.{no_term, fed-tapped, six_tapped, eleven_tapped}
 
 module _ (r h j : ℕ) where
@@ -154,27 +155,38 @@ turned-next p h b g a e =
 
 -- ---- the terms
 
-module _ (r : ℕ) (s s' : List ℕ) (o : ℕ) (l : length s ≡ r) where
-  pub taps_six : r ≡ 6 → s' ≡ plus_at (plus_at s 0 o) 5 o → s' ≡ tapped r s o
-  taps_six e q = q ∙ six_tapped s o (l ∙ e) ∙ ap (λ (m : ℕ). tapped m s o) (sym e)
+-- the word added at each of these places
+abbrev pub plus_all : List ℕ → List ℕ → ℕ → List ℕ
+plus_all s [] o = s
+plus_all s (j ∷ js) o = plus_all (plus_at s j o) js o
 
-  pub taps_eleven : r ≡ 11 → s' ≡ plus_at (plus_at (plus_at (plus_at s 0 o) 1 o) 5 o) 10 o → s' ≡ tapped r s o
-  taps_eleven e q = q ∙ eleven_tapped s o (l ∙ e) ∙ ap (λ (m : ℕ). tapped m s o) (sym e)
+pub plus_end : (s js : List ℕ) (o i : ℕ) → length js ≤ i → plus_all s (drop i js) o ≡ s
+plus_end s js o i h = rw (drop_of_length-le js {i = i} h)
 
-pub taps_none : (r : ℕ) (s : List ℕ) (o : ℕ) → length s ≡ r → (r ≡ 6 → ⊥) → (r ≡ 11 → ⊥) → s ≡ tapped r s o
+taps_none : (r : ℕ) (s : List ℕ) (o : ℕ) → length s ≡ r → (r ≡ 6 → ⊥) → (r ≡ 11 → ⊥) → s ≡ tapped r s o
 taps_none r s o l a b =
     let f : ℕ → ℕ = λ j. bit_xor (get_or s j 0) (pick (get_or (poly r) j false) o 0) in
     sym (ap (λ (m : ℕ). tab m f) (sym l) ∙ tab-get_or s 0 f (λ j h.
     let t : get_or (poly r) j false ≡ false = no_term r j a b (omega arith) in
     ap (λ (x : Bool). bit_xor (get_or s j 0) (pick x o 0)) t ∙ xor_zero_r (get_or s j 0)))
 
+pub taps_all : (r : ℕ) (s : List ℕ) (o : ℕ) → length s ≡ r → plus_all s (taps r) o ≡ tapped r s o
+taps_all r s o l = ⊎_elim six (λ a. ⊎_elim eleven (none a) (eq_or_ne r 11)) (eq_or_ne r 6)
+  where
+    six : r ≡ 6 → plus_all s (taps r) o ≡ tapped r s o
+    six e = subst (λ (m : ℕ). plus_all s (taps m) o ≡ tapped m s o) (sym e) (six_tapped s o (l ∙ e))
+
+    eleven : r ≡ 11 → plus_all s (taps r) o ≡ tapped r s o
+    eleven e = subst (λ (m : ℕ). plus_all s (taps m) o ≡ tapped m s o) (sym e) (eleven_tapped s o (l ∙ e))
+
+    none : (r ≡ 6 → ⊥) → (r ≡ 11 → ⊥) → plus_all s (taps r) o ≡ tapped r s o
+    none a b = rw (ne_eqb r 6 a, ne_eqb r 11 b) (taps_none r s o l a b)
+
 -- ---- a shift
 
-pub fed_ring : (p : List ℕ) (h b g : ℕ) (p' : List ℕ) (n : ℕ) → h < length p → g ≡ slot (length p) h 1 → n ≡ length p
-    → turned p' g ≡ tapped n (turned (set p h b) g) (get_or p h 0) → turned p' g ≡ fed (length p) (turned p h) b
-fed_ring p h b g p' n a e m q =
-    q ∙ ap₂ (λ (k : ℕ) (s : List ℕ). tapped k s (get_or p h 0)) m (turned-next p h b g a e)
-    ∙ ap (tapped (length p) (drop 1 (turned p h) ++ (b ∷ []))) (sym (first-turned p h a)) ∙ fed-tapped (length p) (turned p h) b (length-turned p h a) (omega arith)
-
-pub turned_none : (p : List ℕ) → turned p 0 ≡ p
-turned_none p = append-nil p
+pub fed_ring : (p : List ℕ) (h b g r : ℕ) (s : List ℕ) → length p ≡ r → h < r → g ≡ slot r h 1
+    → s ≡ tapped r (turned (set p h b) g) (get_or p h 0) → s ≡ fed r (turned p h) b
+fed_ring p h b g r s l a e q =
+    let f = turned-next p h b g (omega arith) (e ∙ ap (λ (m : ℕ). slot m h 1) (sym l)) in
+    q ∙ ap₂ (tapped r) f (sym (first-turned p h (omega arith)))
+    ∙ fed-tapped r (turned p h) b (length-turned p h (omega arith) ∙ l) (omega arith)

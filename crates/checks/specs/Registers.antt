@@ -4,6 +4,7 @@
 --     column w n l k       word k of each of the first n rows of w words
 --     fed r s b            the register s of r words once the word b went in
 --     tapped, plus_at       a word added where the polynomial has terms, and at one place
+--     taps r               the places of the terms
 --     turned p h, slot     a ring of words whose first place is h, and where place j is
 --     fed_all r s v         the same for all words of v
 --     remainder            the register after the free positions of a column
@@ -41,6 +42,10 @@ fed r s b = tab r (fed_at r s b (get_or s 0 0))
 -- and in two steps: the shift, and the word that went out added to the terms' places
 abbrev pub tapped : ℕ → List ℕ → ℕ → List ℕ
 tapped r s o = tab r (λ (j : ℕ). bit_xor (get_or s j 0) (pick (get_or (poly r) j false) o 0))
+
+-- the places of those terms
+abbrev pub taps : ℕ → List ℕ
+taps r = pick (eqb r 6) (0 ∷ 5 ∷ []) (pick (eqb r 11) (0 ∷ 1 ∷ 5 ∷ 10 ∷ []) [])
 
 abbrev pub plus_at : List ℕ → ℕ → ℕ → List ℕ
 plus_at s j o = set s j (bit_xor (get_or s j 0) o)

@@ -11,6 +11,7 @@ mod register;
 // `us` by the check polynomial of length r, which is 0, 6 or 11. Rows have w words as in a descent, the constant in word c.
 // Answers false, and changes nothing, unless n is at most limits::LARGEST_N, the sheet has N = 2 to the n records, there is a check of
 // length r, c is below w, w is at most 65536, `us` has N w words, and `eqs` has at least (m + r) w.
+// Numbers one by one, as in the definition that its clause names: a struct for them would only be taken apart there.
 pub fn check_rows(
     n: usize,
     sheet: &[u8],

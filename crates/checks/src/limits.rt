@@ -1,17 +1,14 @@
-// The numbers that the crate is built for, and the test of what a caller hands over.
+// The test of what a caller hands over.
 ghost use Rattle.std.specs.Prelude.{◌≡◌};
 ghost use Rattle.checks.specs.Checking.{spaced, check_fits};
 
-// The longest check.
-pub const LONGEST: usize = 11;
-
-// The most words of a row.
-const WIDEST: usize = 65536;
+use descent::WIDEST;
 
 // Whether rows of w words have a word c for the constant, and r of them behind the first m lie within `eqs` words.
 fn spaced(r: usize, c: usize, w: usize, m: usize, eqs: usize) -> bool
     ensures { result ≡ spaced r c w m eqs }
 {
+    // One test at a time: each has a law of its own to cite (proofs/Testing), and a chain would be no plainer.
     if WIDEST < w {
         return false;
     }
@@ -26,6 +23,7 @@ fn spaced(r: usize, c: usize, w: usize, m: usize, eqs: usize) -> bool
 }
 
 // Whether all that a caller hands over fits together.
+// Lengths and numbers as they come in: there is nothing yet that they could be fields of.
 pub fn fits(
     n: usize,
     sheet: usize,
@@ -38,6 +36,7 @@ pub fn fits(
 ) -> bool
     ensures { result ≡ check_fits n sheet r c w us m eqs }
 {
+    // One test at a time, as above.
     if !sheet::recorded(n, sheet) {
         return false;
     }

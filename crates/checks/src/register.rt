@@ -1,147 +1,135 @@
 // The check's shift register, over one column of words at a time: XOR of rows goes word by word. It is a ring, so that a shift
 // moves its first place and not its words.
-ghost use Rattle.std.specs.Prelude.{◌≡◌, ◌+◌, ◌*◌, ◌<◌, ◌≤◌, length, replicate};
-ghost use Rattle.checks.specs.Registers.{unit_word, slot, turned, plus_at, tapped, fed, remainder, Put, ColumnsUpTo};
+ghost use Rattle.std.specs.Prelude.{◌≡◌, ◌+◌, ◌*◌, ◌<◌, ◌≤◌, true, length, replicate};
+ghost use Rattle.meaning.specs.Answers.{check_length};
+ghost use Rattle.checks.specs.Registers.{unit_word, slot, turned, taps, plus_at, tapped, fed, remainder, Put, ColumnsUpTo};
 
-use super::limits;
-
-// Where place j of the register stands in a ring of r words whose first place is h.
-fn slot(r: usize, h: usize, j: usize) -> usize
-    requires { (h < r) × (j ≤ r) × (r ≤ 11) }
-    ensures { result ≡ slot r h j }
+// Where the check polynomial of length r has a term, from D^(r-1) at place 0 on.
+fn taps(r: usize) -> &'static [usize]
+    ensures { result.now ≡ taps r }
 {
-    let x = h + j;
-    if x < r { x } else { x - r }
-}
-
-// Adds o to place j of the ring.
-fn add_at(reg: &mut [u64], h: usize, j: usize, o: u64)
-    requires { (h < length reg.old) × (j < length reg.old) × (length reg.old ≤ 11) }
-    ensures { turned reg.new h ≡ plus_at (turned reg.old h) j o }
-{
-    let x = slot(reg.len(), h, j);
-    reg[x] = reg[x] ^ o;
-}
-
-// Adds o wherever the check polynomial of the register's length has a term, from D^(r-1) at place 0 on.
-fn add_taps(reg: &mut [u64], h: usize, o: u64)
-    requires { (h < length reg.old) × (length reg.old ≤ 11) }
-    ensures { turned reg.new h ≡ tapped (length reg.old) (turned reg.old h) o }
-{
-    let r = reg.len();
-    if r == 6 {
-        add_at(reg, h, 0, o);
-        add_at(reg, h, 5, o);
-        return;
+    match r {
+        6 => &[0, 5],
+        11 => &[0, 1, 5, 10],
+        _ => &[],
     }
-    if r == 11 {
-        add_at(reg, h, 0, o);
-        add_at(reg, h, 1, o);
-        add_at(reg, h, 5, o);
-        add_at(reg, h, 10, o);
-    }
-}
-
-// Feeds a word to the ring whose first place is h: it takes the place of the word that goes out. Where the first place is then.
-fn feed(reg: &mut [u64], h: usize, b: u64) -> usize
-    requires { (h < length reg.old) × (length reg.old ≤ 11) }
-    ensures { (result < length reg.old) × (turned reg.new result ≡ fed (length reg.old) (turned reg.old h) b) }
-{
-    let o = reg[h];
-    reg[h] = b;
-    let g = slot(reg.len(), h, 1);
-    add_taps(reg, g, o);
-    g
 }
 
 // Word k of the constant's row.
 fn unit_word(c: usize, k: usize) -> u64
     ensures { result ≡ unit_word c k }
 {
-    if k == c { 1 } else { 0 }
+    u64::from(k == c)
 }
 
-// Makes every word of the register x.
-fn start(reg: &mut [u64], x: u64)
-    ensures { reg.new ≡ replicate (length reg.old) x }
-{
-    let mut at = 0;
-    while at < reg.len() {
-        reg[at] = x;
-        at += 1;
-    }
+// A register of N words, a ring that starts at its first place.
+#[derive(Drop)]
+struct Ring<const N: usize> {
+    words: [u64; N],
+    first: usize,
+    ghost inside: { first < N },
+    ghost short: { N ≤ 11 },
 }
 
-// Feeds word k of each free row of `us`. The register starts from the check's leading ones, word k of the constant's row each.
-// Where its first place is then.
-fn divide(
-    reg: &mut [u64],
-    sheet: &[u8],
-    size: usize,
-    us: &[u64],
-    w: usize,
-    c: usize,
-    k: usize,
-) -> usize
-    requires reg_nonzero { 0 < length reg.old }
-    requires reg_len_bound { (length reg.old ≤ 11) × (length us.now ≡ size * w) × (k < w) }
-    ensures { (result < length reg.old) × (turned reg.new result ≡ remainder (length reg.old) sheet.now size us.now w c k) }
-{
-    start(reg, unit_word(c, k));
-    let mut h = 0;
-    let mut i = 0;
-    while i < size {
-        if sheet::is_free(sheet, i) {
-            h = feed(reg, h, us[i * w + k]);
+impl<const N: usize> Ring<N> {
+    // The register whose words are all x.
+    fn new(x: u64) -> Self
+        requires { (0 < N) × (N ≤ 11) }
+        ensures { turned result.words result.first ≡ replicate N x }
+    {
+        Ring {
+            words: [x; N],
+            first: 0,
         }
-        i += 1;
     }
-    h
+
+    // Where place j of the register stands.
+    fn slot(&self, j: usize) -> usize
+        requires { j ≤ N }
+        ensures is { result ≡ slot N self.now.first j }
+        ensures inside { result < N }
+    {
+        let x = self.first + j;
+        if x < N { x } else { x - N }
+    }
+
+    // Adds o to place j.
+    fn add_at(&mut self, j: usize, o: u64)
+        requires { j < N }
+        ensures { turned self.new.words self.new.first ≡ plus_at (turned self.old.words self.old.first) j o }
+    {
+        let x = self.slot(j);
+        self.words[x] ^= o;
+    }
+
+    // Adds o wherever the check polynomial of length N has a term.
+    fn add_taps(&mut self, o: u64)
+        ensures { turned self.new.words self.new.first ≡ tapped N (turned self.old.words self.old.first) o }
+    {
+        let places = taps(N);
+        for j in places {
+            self.add_at(*j, o);
+        }
+    }
+
+    // Feeds a word to the register: it takes the place of the word that goes out.
+    fn feed(&mut self, b: u64)
+        ensures { turned self.new.words self.new.first ≡ fed N (turned self.old.words self.old.first) b }
+    {
+        let h = self.first;
+        let o = self.words[h];
+        self.words[h] = b;
+        self.first = self.slot(1);
+        self.add_taps(o);
+    }
+
+    // The register once word k of each free row of `us` is fed. It starts from the check's leading ones, word k of the constant's
+    // row each.
+    fn divide(sheet: &[u8], size: usize, us: &[u64], w: usize, c: usize, k: usize) -> Self
+        requires { (0 < N) × (N ≤ 11) × (length us.now ≡ size * w) × (k < w) }
+        ensures { turned result.words result.first ≡ remainder N sheet.now size us.now w c k }
+    {
+        let mut ring = Ring::new(unit_word(c, k));
+        // By an index: a column is one word of each row, and so no part of `us`.
+        for i in 0..size {
+            if sheet::is_free(sheet, i) {
+                ring.feed(us[i * w + k]);
+            }
+        }
+        ring
+    }
+
+    // The register becomes word k of each row.
+    fn put(&self, out: &mut [u64], w: usize, k: usize)
+        requires { (length out.old ≡ N * w) × (k < w) }
+        ensures { Put w k (turned self.now.words self.now.first) out.old out.new }
+    {
+        // By an index: what is written through `chunks_exact_mut` is not known afterwards.
+        for j in 0..N {
+            out[j * w + k] = self.words[self.slot(j)];
+        }
+    }
+
+    // All words of the check's rows, column by column.
+    fn columns(sheet: &[u8], size: usize, us: &[u64], w: usize, c: usize, out: &mut [u64])
+        requires { (0 < N) × (N ≤ 11) × (length us.now ≡ size * w) × (length out.old ≡ N * w) }
+        ensures { ColumnsUpTo N w (remainder N sheet.now size us.now w c) w out.new }
+    {
+        for k in 0..w {
+            let ring = Ring::<N>::divide(sheet, size, us, w, c, k);
+            ring.put(out, w, k);
+        }
+    }
 }
 
-// The ring whose first place is h becomes word k of each row.
-fn put(out: &mut [u64], w: usize, k: usize, reg: &[u64], h: usize)
-    requires { (length out.old ≡ length reg.now * w) × (k < w) × (h < length reg.now) × (length reg.now ≤ 11) }
-    ensures { Put w k (turned reg.now h) out.old out.new }
-{
-    let mut j = 0;
-    while j < reg.len() {
-        let x = slot(reg.len(), h, j);
-        out[j * w + k] = reg[x];
-        j += 1;
-    }
-}
-
-// All words of the check's rows, column by column.
-fn columns(
-    reg: &mut [u64],
-    sheet: &[u8],
-    size: usize,
-    us: &[u64],
-    w: usize,
-    c: usize,
-    out: &mut [u64],
-)
-    requires reg_nonzero { 0 < length reg.old }
-    requires reg_len_bound { (length reg.old ≤ 11) × (length us.now ≡ size * w) × (length out.old ≡ length reg.old * w) }
-    ensures { ColumnsUpTo (length reg.old) w (remainder (length reg.old) sheet.now size us.now w c) w out.new }
-{
-    let mut k = 0;
-    while k < w {
-        let h = divide(reg, sheet, size, us, w, c, k);
-        put(out, w, k, reg, h);
-        k += 1;
-    }
-}
-
-// The same for a check of length r, with a register of its own; nothing where there is no check.
+// The same for a check of length r; nothing where there is no check.
 pub fn write(sheet: &[u8], size: usize, us: &[u64], w: usize, c: usize, r: usize, out: &mut [u64])
-    requires { (r ≤ 11) × (length us.now ≡ size * w) × (length out.old ≡ r * w) }
+    requires { (check_length r ≡ true) × (length us.now ≡ size * w) × (length out.old ≡ r * w) }
     ensures { ColumnsUpTo r w (remainder r sheet.now size us.now w c) w out.new }
 {
-    if r == 0 {
-        return;
+    match r {
+        6 => Ring::<6>::columns(sheet, size, us, w, c, out),
+        11 => Ring::<11>::columns(sheet, size, us, w, c, out),
+        _ => {}
     }
-    let mut reg: [u64; limits::LONGEST] = [0; limits::LONGEST];
-    columns(&mut reg[..r], sheet, size, us, w, c, out);
 }

@@ -1,143 +1,114 @@
--- What the calls of `decode` ask of a block, and the numbers of its halves.
---     halves                          a block of 2 ^ k slots by its halves
---     leaf_ask, ask_left, ask_right   what a position, the left half and the right half ask
---     leaf_back, done                 the block is done
-use mathlib.Core.Path.{◌≡◌, sym, ap, ap₂, ◌∙◌}
-use Prim.Native.Nat.{ℕ, suc, ◌+◌, ◌-◌, ◌*◌, ◌/◌, ◌^◌, ◌≤◌, ◌<◌}
+-- What the calls of `decode` ask of a block.
+--     leaf_room, leaf_back            a block of one position
+--     ask_left, ask_right, done       what the halves ask; the block is done
+use mathlib.Core.Path.{◌≡◌, sym, ap, ◌∙◌, subst}
+use Prim.Native.Nat.{ℕ, ◌+◌, ◌-◌, ◌*◌, ◌^◌, ◌≤◌}
 use native.Mathlib.Omega.{arith}
-use native.Mathlib.Nat.{add-mul, one-mul}
-use mathlib.Core.List.{List, [], ◌∷◌, ◌++◌}
-use lib.ListN.{length, take, drop, get_or}
-use lib.Seq.{length-take-le}
-use Rattle.bits.specs.Rows.{Row, rows}
-use Rattle.meaning.specs.Limits.{record_bytes, mask_bytes}
-use Rattle.meaning.specs.Sheet.{rule_at}
-use Rattle.bits.proofs.Parts.{half_of, from, from-length}
-use Rattle.model.specs.Model.{Walk, join_out, next_at, eqs_at, out_at}
-use Rattle.model.specs.RowValues.{row_values}
-use Rattle.descent.specs.Block.{slot_of, walk_of, out_of, decoded, Parted, Settled, Joined}
+use native.Mathlib.Nat.{one-mul}
+use mathlib.Core.List.{List, ◌++◌}
+use lib.ListN.{length}
+use Rattle.bits.specs.Rows.{Row, added}
+use Rattle.meaning.specs.Limits.{record_bytes}
+use Rattle.model.specs.Model.{Walk, join_out}
+use Rattle.descent.specs.declared.leaf.Mark.{Mark}
+use Rattle.descent.specs.declared.leaf.Shape.{Shape}
+use Rattle.descent.specs.declared.leaf.Tally.{Tally}
+use Rattle.descent.specs.Block.{mark_at, values_of, walk_of, out_of, decoded, stepped, Room, Here, Parted, Settled}
+use Rattle.descent.proofs.Slots.{halves_added}
 use Rattle.descent.proofs.Leaves.{leaf_is}
-use Rattle.descent.proofs.Halves.{left-next, left-eqs, both_is, whole-done}
-
-pub halves : (k m v w : ℕ) → (k ≡ 0 → ⊥) → m ≡ 2 ^ k → v ≡ m * w → (m ≡ m / 2 + m / 2) × (m / 2 ≡ 2 ^ (k - 1)) × (v ≡ (m / 2) * w + (m / 2) * w)
-halves k m v w p em ev =
-    let (a, b) = half_of k m p em in
-    (a, b, ev ∙ ap (λ (x : ℕ). x * w) a ∙ add-mul (m / 2) (m / 2) w)
-
--- ---- what a call asks, of a block m, v
-
-abbrev pub Fit : ℕ → ℕ → ℕ → ℕ → List ℕ → List ℕ → List ℕ → Type 0
-Fit c w k at v m us = (length m ≡ 2 ^ k) × (length v ≡ length m * w) × ((at + length m) * w ≤ length us) × (c < w)
-
-abbrev pub Near : ℕ → ℕ → List ℕ → List ℕ → Type 0
-Near c at sheet m = (at + length m ≤ 8 * mask_bytes) × ((at + length m) * record_bytes ≤ length sheet) × (64 * c < 2 ^ 63)
-
-abbrev pub Room : ℕ → ℕ → ℕ → List ℕ → List ℕ → List ℕ → Walk Row → ℕ → Type 0
-Room c w k sheet v m s n = ((decoded c w sheet k m v s).after.next ≤ 64 * c) × (length (decoded c w sheet k m v s).after.eqs * w ≤ n)
+use Rattle.descent.proofs.Halves.{Halved, left_room, both_is, whole-done}
 
 -- a leaf
-module _ (c w k at i e : ℕ) (sheet v m us es : List ℕ) (z : k ≡ 0) (fit : Fit c w k at v m us) where
+module _ (s : Shape) (k : ℕ) (t : Tally) (sheet v us es : List ℕ) (m : List Mark) (z : k ≡ 0) (em : length m ≡ 2 ^ k) (H : Here s t.at (length m) sheet v us) where
   one : length m ≡ 1
-  one = fit.0 ∙ ap (λ (x : ℕ). 2 ^ x) z
+  one = em ∙ ap (λ (x : ℕ). 2 ^ x) z
 
-  row : length v ≡ w
-  row = fit.1 ∙ ap (λ (x : ℕ). x * w) one ∙ one-mul w
+  meant : decoded s sheet k m v (walk_of s.words us t es) ≡ stepped s sheet t.at (mark_at m 0) v (walk_of s.words us t es)
+  meant = ap (λ (x : ℕ). decoded s sheet x m v (walk_of s.words us t es)) z ∙ leaf_is s t sheet v us es (H.rows_v ∙ ap (λ (x : ℕ). x * s.words) one ∙ one-mul s.words) m one
 
-  meant : decoded c w sheet k m v (walk_of w at us i e es) ≡ out_at (row_values c w) (rule_at sheet at) (slot_of (get_or m 0 0) v ∷ []) (walk_of w at us i e es)
-  meant = ap (λ (x : ℕ). decoded c w sheet x m v (walk_of w at us i e es)) z ∙ leaf_is c w at i e sheet v us es row m one
+  pub leaf_room : Room s (decoded s sheet k m v (walk_of s.words us t es)) (length es) → Room s (stepped s sheet t.at (mark_at m 0) v (walk_of s.words us t es)) (length es)
+  leaf_room R = rw meant at R
 
-  pub leaf_ask : Near c at sheet m → Room c w k sheet v m (walk_of w at us i e es) (length es)
-      → ((length v ≡ w) × (at * w + w ≤ length us) × (c < w)) × (((at < 8 * mask_bytes) × ((at + 1) * record_bytes ≤ length sheet))
-      × (((next_at (rule_at sheet at) (slot_of (get_or m 0 0) v) i ≤ 64 * c) × (64 * c < 2 ^ 63))
-      × (length (rows w e es ++ eqs_at (row_values c w) (rule_at sheet at) (slot_of (get_or m 0 0) v) (rows w at us)) * w ≤ length es)))
-  unfolding record_bytes mask_bytes
-  leaf_ask near room =
-      let o = one in
-      let u : (at + 1) * w ≤ length us = rw o at fit.2 in
-      let q = near.0 in
-      let r = near.1 in
-      let n = rw meant at room.0 in
-      let f = rw meant at room.1 in
-      ((row, omega arith, fit.3), ((omega arith, omega arith), ((n, near.2), f)))
-
-  pub leaf_back : (v' us' es' : List ℕ) (i' e' : ℕ) → out_of w 1 v' (walk_of w (at + 1) us' i' e' es') ≡ out_at (row_values c w) (rule_at sheet at) (slot_of (get_or m 0 0) v ∷ []) (walk_of w at us i e es)
-      → out_of w (length m) v' (walk_of w (at + length m) us' i' e' es') ≡ decoded c w sheet k m v (walk_of w at us i e es)
-  leaf_back v' us' es' i' e' h = ap (λ (x : ℕ). out_of w x v' (walk_of w (at + x) us' i' e' es')) one ∙ h ∙ sym meant
+  pub leaf_back : (v' us' es' : List ℕ) (t' : Tally) → out_of s.words 1 v' (walk_of s.words us' t' es') ≡ stepped s sheet t.at (mark_at m 0) v (walk_of s.words us t es)
+      → out_of s.words (length m) v' (walk_of s.words us' t' es') ≡ decoded s sheet k m v (walk_of s.words us t es)
+  leaf_back v' us' es' t' h = ap (λ (x : ℕ). out_of s.words x v' (walk_of s.words us' t' es')) one ∙ h ∙ sym meant
 
 -- a block
-module _ (c w k at i e h : ℕ) (sheet v m us es : List ℕ) (z : k ≡ 0 → ⊥) (fit : Fit c w k at v m us) (near : Near c at sheet m) (room : Room c w k sheet v m (walk_of w at us i e es) (length es))
-    (eh : h ≡ 2 ^ (k - 1)) (lm : length m ≡ h + h)
-    (v₁ m₁ : List ℕ) (lv₁ : length v₁ ≡ h * w + h * w) (lm₁ : length m₁ ≡ h + h) (parted : Parted w h v m v₁ m₁) where
-  up : k ≡ suc (k - 1)
-  up = omega arith
+module _ (s : Shape) (k h : ℕ) (t : Tally) (sheet v l r us es : List ℕ) (m p q : List Mark) (D : Halved s.words k h v l r m p q)
+    (H : Here s t.at (length m) sheet v us) (R : Room s (decoded s sheet k m v (walk_of s.words us t es)) (length es))
+    (l₁ r₁ : List ℕ) (p₁ q₁ : List Mark) (len_l : length l₁ ≡ length l) (len_p : length p₁ ≡ length p) (given : Parted s.words (length q) l r p q l₁ r₁ p₁ q₁) where
+  abbrev w : ℕ
+  w = s.words
 
-  abbrev s₀ : Walk Row
-  s₀ = walk_of w at us i e es
+  parted : Parted w h l r p q l₁ r₁ p₁ q₁
+  parted = subst (λ (i : ℕ). Parted w i l r p q l₁ r₁ p₁ q₁) D.len_q given
 
-  len_left : length (take h m₁) ≡ h
-  len_left = length-take-le h m₁ (omega arith)
+  abbrev a : Walk Row
+  a = walk_of w us t es
 
-  room-suc : Room c w (suc (k - 1)) sheet v m s₀ (length es)
-  room-suc = rw up at room
+  len₁ : length p₁ ≡ h
+  len₁ = len_p ∙ D.len_p
 
-  pub ask_left : Fit c w (k - 1) at (take (h * w) v₁) (take h m₁) us × (Near c at sheet (take h m₁) × Room c w (k - 1) sheet (take (h * w) v₁) (take h m₁) s₀ (length es))
-  unfolding record_bytes mask_bytes
+  pub ask_left : (length p₁ ≡ 2 ^ (k - 1)) × (Here s t.at (length p₁) sheet l₁ us × Room s (decoded s sheet (k - 1) p₁ l₁ a) (length es))
+  unfolding record_bytes
   ask_left =
-      let a = len_left in
-      let b : length (take (h * w) v₁) ≡ h * w = length-take-le (h * w) v₁ (omega arith) in
-      let u : (at + (h + h)) * w ≤ length us = rw lm at fit.2 in
-      let y : (at + h) * w ≤ length us = omega arith in
-      let p = near.0 in
-      let q = near.1 in (
-        (a ∙ eh, b ∙ ap (λ (x : ℕ). x * w) (sym a), rw a y, fit.3),
+      let u : (t.at + (h + h)) * w ≤ length us = rw D.both at H.rows_u in
+      let y : (t.at + h) * w ≤ length us = omega arith in (
+        len₁ ∙ D.half,
         (
-          (omega arith, omega arith, near.2),
-          (left-next c w (k - 1) h sheet v m eh lm v₁ m₁ lv₁ lm₁ parted s₀ (64 * c) room-suc.0, left-eqs c w (k - 1) h sheet v m eh lm v₁ m₁ lv₁ lm₁ parted s₀ (length es) room-suc.1),
+          record {
+            below = omega (arith, H.below, D.both, len₁);
+            records = omega (arith, H.records, D.both, len₁);
+            rows_v = len_l ∙ D.len_l ∙ ap (λ (x : ℕ). x * w) (sym len₁);
+            rows_u = rw len₁ y;
+            constant = H.constant;
+          },
+          left_room s k h sheet v l r m p q D l₁ r₁ p₁ q₁ len₁ parted a (length es) R,
         ),
       )
 
-  module _ (vL mL v₂ m₂ v₃ m₃ us₁ es₁ : List ℕ) (i₁ e₁ : ℕ) (lvL : length vL ≡ h * w) (lmL : length mL ≡ h) (e₂ : v₂ ≡ vL ++ drop (h * w) v₁) (f₂ : m₂ ≡ mL ++ drop h m₁)
-      (lv₃ : length v₃ ≡ h * w + h * w) (lm₃ : length m₃ ≡ h + h) (settled : Settled w h v₂ m₂ v₃ m₃) (lus : length us₁ ≡ length us) (les : length es₁ ≡ length es)
-      (back₁ : out_of w (length (take h m₁)) vL (walk_of w (at + length (take h m₁)) us₁ i₁ e₁ es₁) ≡ decoded c w sheet (k - 1) (take h m₁) (take (h * w) v₁) s₀) where
-    abbrev s₁ : Walk Row
-    s₁ = walk_of w (at + h) us₁ i₁ e₁ es₁
+  module _ (len_q₁ : length q₁ ≡ length q) (vL us₁ es₁ : List ℕ) (t₁ : Tally) (len_us : length us₁ ≡ length us) (len_es : length es₁ ≡ length es) (at₁ : t₁.at ≡ t.at + length p₁)
+      (back₁ : out_of w (length p₁) vL (walk_of w us₁ t₁ es₁) ≡ decoded s sheet (k - 1) p₁ l₁ a)
+      (r₂ : List ℕ) (q₂ : List Mark) (len_r : length r₂ ≡ length r) (len_q : length q₂ ≡ length q) (got : Settled w (length q₁) vL r₁ q₁ r₂ q₂) where
+    settled : Settled w h vL r₁ q₁ r₂ q₂
+    settled = subst (λ (i : ℕ). Settled w i vL r₁ q₁ r₂ q₂) (len_q₁ ∙ D.len_q) got
 
-    abbrev v_b : List ℕ
-    v_b = take (length v₃ - h * w) (drop (h * w) v₃)
+    abbrev a₁ : Walk Row
+    a₁ = walk_of w us₁ t₁ es₁
 
-    abbrev m_b : List ℕ
-    m_b = take (length m₃ - h) (drop h m₃)
+    len₂ : length q₂ ≡ h
+    len₂ = len_q ∙ D.len_q
 
-    left_back : out_of w h vL s₁ ≡ decoded c w sheet (k - 1) (take h m₁) (take (h * w) v₁) s₀
-    left_back = ap (λ (x : ℕ). out_of w x vL (walk_of w (at + x) us₁ i₁ e₁ es₁)) (sym len_left) ∙ back₁
+    back : out_of w h vL a₁ ≡ decoded s sheet (k - 1) p₁ l₁ a
+    back = ap (λ (x : ℕ). out_of w x vL a₁) (sym len₁) ∙ back₁
 
-    both : decoded c w sheet (suc (k - 1)) m v s₀ ≡ join_out (row_values c w) (out_of w h vL s₁) (decoded c w sheet (k - 1) m_b v_b s₁)
-    both = both_is c w (k - 1) h sheet v m eh lm v₁ m₁ lv₁ lm₁ parted vL mL v₂ m₂ v₃ m₃ lvL lmL e₂ f₂ lv₃ lm₃ settled v_b m_b (from v₃ (h * w)) (from m₃ h) s₀ s₁ left_back
+    both : decoded s sheet k m v a ≡ join_out (values_of s) (out_of w h vL a₁) (decoded s sheet (k - 1) q₂ r₂ a₁)
+    both = both_is s k h sheet v l r m p q D l₁ r₁ p₁ q₁ len₁ parted vL r₂ q₂ len₂ settled a a₁ back
 
-    pub ask_right : Fit c w (k - 1) (at + h) v_b m_b us₁ × (Near c (at + h) sheet m_b × Room c w (k - 1) sheet v_b m_b s₁ (length es₁))
-    unfolding record_bytes mask_bytes
+    pub ask_right : (length q₂ ≡ 2 ^ (k - 1)) × (Here s t₁.at (length q₂) sheet r₂ us₁ × Room s (decoded s sheet (k - 1) q₂ r₂ a₁) (length es₁))
+    unfolding record_bytes
     ask_right =
-        let a : length m_b ≡ h = from-length m₃ h lm₃ in
-        let b : length v_b ≡ h * w = from-length v₃ (h * w) lv₃ in
-        let u : (at + (h + h)) * w ≤ length us = rw lm at fit.2 in
-        let y : (at + h + h) * w ≤ length us₁ = omega arith in
-        let p = near.0 in
-        let q = near.1 in
-        let r₀ = room-suc.0 in
-        let r₁ = room-suc.1 in (
-          (a ∙ eh, b ∙ ap (λ (x : ℕ). x * w) (sym a), rw a y, fit.3),
+        let u : (t.at + (h + h)) * w ≤ length us = rw D.both at H.rows_u in
+        let i : t₁.at + length q₂ ≡ t.at + (h + h) = omega (arith, at₁, len₁, len₂) in
+        let y : (t₁.at + length q₂) * w ≤ length us₁ = rw (i, len_us) u in
+        let x = R.unknowns in
+        let z = R.equations in (
+          len₂ ∙ D.half,
           (
-            (omega arith, omega arith, near.2),
-            (rw both at r₀, rw (both, ← les) at r₁),
+            record {
+              below = omega (arith, H.below, D.both, i);
+              records = omega (arith, H.records, D.both, i);
+              rows_v = len_r ∙ D.len_r ∙ ap (λ (x : ℕ). x * w) (sym len₂);
+              rows_u = y;
+              constant = H.constant;
+            },
+            record { unknowns = rw both at x; equations = rw (both, ← len_es) at z; small = R.small },
           ),
         )
 
-    pub done : (vR v₄ v₅ us₂ es₂ : List ℕ) (i₂ e₂ : ℕ) → v₄ ≡ take (h * w) v₃ ++ vR → length vR ≡ h * w → Joined w h v₄ v₅
-        → out_of w (length m_b) vR (walk_of w (at + h + length m_b) us₂ i₂ e₂ es₂) ≡ decoded c w sheet (k - 1) m_b v_b s₁
-        → out_of w (length m) v₅ (walk_of w (at + length m) us₂ i₂ e₂ es₂) ≡ decoded c w sheet k m v s₀
-    done vR v₄ v₅ us₂ es₂ i₂ e₂' e₄ lR joined r =
-        let a : length m_b ≡ h = from-length m₃ h lm₃ in
-        let q : at + length m ≡ at + h + length m_b = omega arith in
-        let r' : out_of w h vR (walk_of w (at + length m) us₂ i₂ e₂' es₂) ≡ decoded c w sheet (k - 1) m_b v_b s₁ = ap₂ (λ (x y : ℕ). out_of w x vR (walk_of w y us₂ i₂ e₂' es₂)) (sym a) q ∙ r in
-        whole-done c w (k - 1) h sheet v m eh lm v₁ m₁ lv₁ lm₁ parted vL mL v₂ m₂ v₃ m₃ lvL lmL e₂ f₂ lv₃ lm₃ settled v_b m_b (from v₃ (h * w)) (from m₃ h) s₀ s₁ left_back vR v₄ v₅ (walk_of w (at + length m) us₂ i₂ e₂' es₂) e₄ lR joined r'
-        ∙ ap (λ (x : ℕ). decoded c w sheet x m v s₀) (sym up)
+    pub done : (vR l₃ us₂ es₂ : List ℕ) (t₂ : Tally) → length vL ≡ h * w → length vR ≡ h * w → length l₃ ≡ h * w → l₃ ≡ added vL 0 vR 0 (h * w)
+        → out_of w (length q₂) vR (walk_of w us₂ t₂ es₂) ≡ decoded s sheet (k - 1) q₂ r₂ a₁
+        → out_of w (length m) (l₃ ++ vR) (walk_of w us₂ t₂ es₂) ≡ decoded s sheet k m v a
+    done vR l₃ us₂ es₂ t₂ lenL lenR len₃ e b =
+        whole-done s k h sheet v l r m p q D l₁ r₁ p₁ q₁ len₁ parted vL r₂ q₂ len₂ settled a a₁ back vR l₃ (walk_of w us₂ t₂ es₂) len₃
+        (halves_added w h (h * w) vL vR l₃ (lenL ∙ sym lenR) lenR (sym lenR) e) (ap (λ (x : ℕ). out_of w x vR (walk_of w us₂ t₂ es₂)) (sym len₂) ∙ b)

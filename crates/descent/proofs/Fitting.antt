@@ -1,17 +1,16 @@
--- The test of what a caller hands over, in the values that the code has by then: size, N; whole, N rows of w words.
+-- The test of what a caller hands over: what holds where it passes.
 --     whole-fits                       N rows of w words, within a machine word
---     roomy-.., filled-..              each test of the code, and what the definition then says
---     fitting-..                       the whole test; what holds where all fits
-use mathlib.Core.Path.{◌≡◌, sym, ◌∙◌}
+--     roomy-true, fitting-true         where there is a place for all unknowns; where all fits
+use mathlib.Core.Path.{◌≡◌}
 use Prim.Native.Nat.{ℕ, ◌*◌, ◌^◌, ◌≤◌, ◌<◌}
 use native.Mathlib.Omega.{arith}
 use native.Mathlib.Nat.{mul-le-mul_right}
-use mathlib.Core.Bool.{Bool, true, false, not}
+use mathlib.Core.Bool.{true}
 use lib.Dec.{eqb, leb, ltb}
 use lib.Pow.{pow_mono}
 use mir.Val.{Fits}
 use mir.Syntax.{w64}
-use borrow.Author.Tests.{ltb-true, leb-true, eqb-true, lt-ltb, le-ltb, le-leb, lt-leb, eq-eqb, ne_eqb, not-true}
+use borrow.Author.Tests.{ltb-true, leb-true, eqb-true}
 use Rattle.bits.proofs.Tests.{and_l, and_r}
 use Rattle.meaning.specs.Limits.{largest_n}
 use Rattle.sheet.specs.Shapes.{shaped}
@@ -25,45 +24,6 @@ whole-fits n size w h k e =
     let q : size ≤ 2 ^ largest_n = omega arith in
     let r : size * w ≤ 2 ^ largest_n * w = mul-le-mul_right w q in
     omega arith
-
-module _ (most c w : ℕ) where
-  pub roomy-wide : widest < w → roomy most c w ≡ false
-  unfolding roomy
-  roomy-wide h = rw (lt-leb w widest h)
-
-  pub roomy-full : w ≤ widest → w ≤ c → roomy most c w ≡ false
-  unfolding roomy
-  roomy-full h q = rw (le-leb w widest h, le-ltb c w q)
-
-  pub roomy-most : w ≤ widest → c < w → roomy most c w ≡ leb most (64 * c)
-  unfolding roomy
-  roomy-most h q = rw (le-leb w widest h, lt-ltb c w q)
-
-module _ (n w v u e size : ℕ) (es : size ≡ 2 ^ n) where
-  pub filled-vals : (v ≡ size * w → ⊥) → filled n w v u e ≡ false
-  unfolding filled
-  filled-vals q = rw (← es, ne_eqb v (size * w) q)
-
-  pub filled-us : v ≡ size * w → (u ≡ size * w → ⊥) → filled n w v u e ≡ false
-  unfolding filled
-  filled-us p q = rw (← es, eq-eqb v (size * w) p, ne_eqb u (size * w) q)
-
-  pub filled-eqs : v ≡ size * w → u ≡ size * w → filled n w v u e ≡ leb (size * w) e
-  unfolding filled
-  filled-eqs p q = rw (← es, eq-eqb v (size * w) p, eq-eqb u (size * w) q)
-
-module _ (n s d most c w v u e : ℕ) {t : Bool} where
-  pub fitting-shaped : t ≡ shaped n s d → not t ≡ true → fitting n s d most c w v u e ≡ false
-  unfolding fitting
-  fitting-shaped p q = rw (sym p ∙ not-true t q)
-
-  pub fitting-roomy : shaped n s d ≡ true → t ≡ roomy most c w → not t ≡ true → fitting n s d most c w v u e ≡ false
-  unfolding fitting
-  fitting-roomy h p q = rw (h, sym p ∙ not-true t q)
-
-pub fitting-filled : (n s d most c w v u e : ℕ) → shaped n s d ≡ true → roomy most c w ≡ true → fitting n s d most c w v u e ≡ filled n w v u e
-unfolding fitting
-fitting-filled n s d most c w v u e h k = rw (h, k)
 
 -- ---- where all fits
 

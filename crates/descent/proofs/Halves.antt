@@ -1,25 +1,29 @@
--- The five steps of a call on a block of h and h slots are the model's.
---     by_halves, left_is, right_is     what each half is given
---     left-next, left-eqs              room for both halves is room for the left one
+-- The steps of a call on a block of two halves of h slots each are the model's. The rows v of the block are l and r, and its
+-- marks m are p and q.
+--     Halved, halved                   a block's halves
+--     left_room                        room for both halves is room for the left one
 --     both_is, whole-done              the block after the left half has come back, and after the right half
 use mathlib.Core.Path.{◌≡◌, refl, sym, ap, ap₂, ◌∙◌}
-use Prim.Native.Nat.{ℕ, zero, suc, ◌+◌, ◌*◌, ◌^◌, ◌≤◌, ◌<◌}
+use Prim.Native.Nat.{ℕ, zero, suc, ◌+◌, ◌-◌, ◌*◌, ◌/◌, ◌^◌, ◌≤◌, ◌<◌}
 use native.Mathlib.Omega.{arith}
-use native.Mathlib.Nat.{mul-le-mul_right}
+use native.Mathlib.Nat.{mul-le-mul_right, add-mul}
 use mathlib.Core.List.{List, [], ◌∷◌, ◌++◌}
 use mathlib.Core.Option.{Option}
-use lib.ListN.{length, take, drop, get_or, length-append, length-drop}
-use lib.Seq.{length-take-le, get_or-append-add, get_or-drop, get_or-take}
+use lib.ListN.{length, take, drop, length-append, length-drop}
+use lib.Seq.{length-take-le, get_or-drop, get_or-take}
 use Rattle.bits.specs.Vectors.{tab}
 use Rattle.bits.specs.Rows.{Row, ◌⊻◌, row, rows}
+use Rattle.bits.proofs.Parts.{half_of}
 use Rattle.bits.proofs.Tests.{length-tab, tab_below, tab_append}
-use Rattle.bits.proofs.RowLaws.{row-left, row-right, row-take, row_drop}
+use Rattle.bits.proofs.RowLaws.{row-take, row_drop, rows_append}
 use Rattle.meaning.specs.Sheet.{Rule, rule_at}
 use Rattle.model.specs.Model.{Values, Walk, Out, sums, left_sym, right_sym, left_syms, right_syms, join_out, decode}
 use Rattle.model.proofs.Relate.{decode_grows}
 use Rattle.model.proofs.Steps.{decode_halves, decode-behind}
-use Rattle.model.specs.RowValues.{row_values}
-use Rattle.descent.specs.Block.{slot_of, due, sym_at, syms, out_of, decoded, Parted, Settled, Joined}
+use Rattle.descent.specs.declared.leaf.Mark.{Mark}
+use Rattle.descent.specs.declared.leaf.Mark.TheVariants.{Erased}
+use Rattle.descent.specs.declared.leaf.Shape.{Shape}
+use Rattle.descent.specs.Block.{slot_of, mark_at, sym_at, syms, values_of, out_of, decoded, Room, Parted, Settled, Joined}
 
 -- ---- the model on lists by place
 
@@ -45,98 +49,121 @@ module _ {A : Type 0} (𝓥 : Values A) where
 
 -- ---- a block of h and h
 
-module _ (c w n h : ℕ) (sheet v m : List ℕ) (eh : h ≡ 2 ^ n) (lm : length m ≡ h + h) where
+pub record Halved (w k h : ℕ) (v l r : List ℕ) (m p q : List Mark) : Type 0 where
+  pub up : k ≡ suc (k - 1)
+  pub half : h ≡ 2 ^ (k - 1)
+  pub both : length m ≡ h + h
+  pub l_is : l ≡ take (h * w) v
+  pub r_is : r ≡ drop (h * w) v
+  pub p_is : p ≡ take h m
+  pub q_is : q ≡ drop h m
+  pub len_v : length v ≡ h * w + h * w
+  pub len_l : length l ≡ h * w
+  pub len_r : length r ≡ h * w
+  pub len_p : length p ≡ h
+  pub len_q : length q ≡ h
+
+pub halved : (w k : ℕ) (v l r : List ℕ) (m p q : List Mark) → (k ≡ 0 → ⊥) → length m ≡ 2 ^ k → length v ≡ length m * w
+    → l ≡ take (length m / 2 * w) v → r ≡ drop (length m / 2 * w) v → p ≡ take (length m / 2) m → q ≡ drop (length m / 2) m → Halved w k (length m / 2) v l r m p q
+halved w k v l r m p q z em ev el er ep eq =
+    let h = length m / 2 in
+    let (a, b) = half_of k (length m) z em in
+    let lv : length v ≡ h * w + h * w = ev ∙ ap (λ (x : ℕ). x * w) a ∙ add-mul h h w in
+    record {
+      up = omega arith;
+      half = b;
+      both = a;
+      l_is = el;
+      r_is = er;
+      p_is = ep;
+      q_is = eq;
+      len_v = lv;
+      len_l = ap length el ∙ length-take-le (h * w) v (omega arith);
+      len_r = ap length er ∙ length-drop (h * w) v ∙ omega arith;
+      len_p = ap length ep ∙ length-take-le h m (omega arith);
+      len_q = ap length eq ∙ length-drop h m ∙ omega arith;
+    }
+
+module _ (s : Shape) (k h : ℕ) (sheet : List ℕ) (v l r : List ℕ) (m p q : List Mark) (H : Halved s.words k h v l r m p q) where
+  abbrev n : ℕ
+  n = k - 1
+
+  abbrev w : ℕ
+  w = s.words
+
   abbrev 𝓡 : Values Row
-  𝓡 = row_values c w
+  𝓡 = values_of s
 
   abbrev lefts : List (Option Row)
-  lefts = tab h (sym_at w m v)
+  lefts = tab h (sym_at w p l)
 
   abbrev rights : List (Option Row)
-  rights = tab h (λ (j : ℕ). sym_at w m v (h + j))
+  rights = tab h (sym_at w q r)
+
+  left_at : (j : ℕ) → j < h → sym_at w m v j ≡ sym_at w p l j
+  left_at j b =
+      sym (ap₂ slot_of (ap (λ (x : List Mark). mark_at x j) H.p_is ∙ get_or-take h m j Erased b) (ap (λ (x : List ℕ). row w x j) H.l_is ∙ row-take w h v (omega (arith, H.len_v)) j b))
+
+  right_at : (j : ℕ) → sym_at w m v (h + j) ≡ sym_at w q r j
+  right_at j = sym (ap₂ slot_of (ap (λ (x : List Mark). mark_at x j) H.q_is ∙ get_or-drop h m j Erased) (ap (λ (x : List ℕ). row w x j) H.r_is ∙ row_drop w h v (omega (arith, H.len_v)) j))
+
+  slots_are : syms w (length m) m v ≡ lefts ++ rights
+  slots_are =
+      ap (λ (i : ℕ). tab i (sym_at w m v)) H.both ∙ tab_append h h (sym_at w m v)
+      ∙ ap₂ (λ (x y : List (Option Row)). x ++ y) (tab_below h (sym_at w m v) (sym_at w p l) left_at) (tab_below h (λ (j : ℕ). sym_at w m v (h + j)) (sym_at w q r) (λ j b. right_at j))
 
   -- the model, by halves
-  by_halves : (s : Walk Row) → decoded c w sheet (suc n) m v s ≡ (let l = decode 𝓡 (rule_at sheet) n (left_syms 𝓡 lefts rights) s in join_out 𝓡 l (decode 𝓡 (rule_at sheet) n (right_syms 𝓡 lefts rights l.block) l.after))
-  by_halves s =
-      ap (λ (x : List (Option Row)). decode 𝓡 (rule_at sheet) (suc n) x s) (ap (λ (i : ℕ). tab i (sym_at w m v)) lm ∙ tab_append h h (sym_at w m v))
-      ∙ decode_halves 𝓡 (rule_at sheet) n lefts rights (length-tab h (sym_at w m v) ∙ eh) s
+  by_halves : (a : Walk Row) → decoded s sheet k m v a ≡ (let o = decode 𝓡 (rule_at sheet) n (left_syms 𝓡 lefts rights) a in join_out 𝓡 o (decode 𝓡 (rule_at sheet) n (right_syms 𝓡 lefts rights o.block) o.after))
+  by_halves a =
+      ap₂ (λ (i : ℕ) (x : List (Option Row)). decode 𝓡 (rule_at sheet) i x a) H.up slots_are
+      ∙ decode_halves 𝓡 (rule_at sheet) n lefts rights (length-tab h (sym_at w p l) ∙ H.half) a
 
-  module _ (v₁ m₁ : List ℕ) (lv₁ : length v₁ ≡ h * w + h * w) (lm₁ : length m₁ ≡ h + h) (parted : Parted w h v m v₁ m₁) where
+  module _ (l₁ r₁ : List ℕ) (p₁ q₁ : List Mark) (len₁ : length p₁ ≡ h) (parted : Parted w h l r p q l₁ r₁ p₁ q₁) where
     -- what the left half is given
-    left_is : left_syms 𝓡 lefts rights ≡ syms w (length (take h m₁)) (take h m₁) (take (h * w) v₁)
+    left_is : left_syms 𝓡 lefts rights ≡ syms w (length p₁) p₁ l₁
     left_is =
-        left-tab 𝓡 h (sym_at w m v) (λ (j : ℕ). sym_at w m v (h + j))
-        ∙ tab_below h (λ (j : ℕ). left_sym 𝓡 (sym_at w m v j) (sym_at w m v (h + j))) (sym_at w (take h m₁) (take (h * w) v₁)) (λ j p.
-        sym ((parted.slots j p).left c) ∙ sym (ap₂ slot_of (get_or-take h m₁ j 0 p) (row-take w h v₁ (omega arith) j p)))
-        ∙ ap (λ (i : ℕ). tab i (sym_at w (take h m₁) (take (h * w) v₁))) (sym (length-take-le h m₁ (omega arith)))
+        left-tab 𝓡 h (sym_at w p l) (sym_at w q r)
+        ∙ tab_below h (λ (j : ℕ). left_sym 𝓡 (sym_at w p l j) (sym_at w q r j)) (sym_at w p₁ l₁) (λ j b. sym ((parted.slots j b).left s.coeffs))
+        ∙ ap (λ (i : ℕ). tab i (sym_at w p₁ l₁)) (sym len₁)
 
     abbrev left_out : Walk Row → Out Row
-    left_out s = decoded c w sheet n (take h m₁) (take (h * w) v₁) s
+    left_out a = decoded s sheet n p₁ l₁ a
 
-    whole_is : (s : Walk Row) → decoded c w sheet (suc n) m v s ≡ join_out 𝓡 (left_out s) (decode 𝓡 (rule_at sheet) n (right_syms 𝓡 lefts rights (left_out s).block) (left_out s).after)
-    whole_is s = by_halves s ∙ ap (λ (x : List (Option Row)). let l = decode 𝓡 (rule_at sheet) n x s in join_out 𝓡 l (decode 𝓡 (rule_at sheet) n (right_syms 𝓡 lefts rights l.block) l.after)) left_is
+    whole_is : (a : Walk Row) → decoded s sheet k m v a ≡ join_out 𝓡 (left_out a) (decode 𝓡 (rule_at sheet) n (right_syms 𝓡 lefts rights (left_out a).block) (left_out a).after)
+    whole_is a = by_halves a ∙ ap (λ (x : List (Option Row)). let o = decode 𝓡 (rule_at sheet) n x a in join_out 𝓡 o (decode 𝓡 (rule_at sheet) n (right_syms 𝓡 lefts rights o.block) o.after)) left_is
 
-    pub left-next : (s : Walk Row) (lim : ℕ) → (decoded c w sheet (suc n) m v s).after.next ≤ lim → (left_out s).after.next ≤ lim
-    left-next s lim q =
-        let e = ap (λ (o : Out Row). o.after.next) (whole_is s) in
-        let g = decode_grows 𝓡 (rule_at sheet) n (right_syms 𝓡 lefts rights (left_out s).block) (left_out s).after in
-        omega (arith, e, g)
-
-    pub left-eqs : (s : Walk Row) (lim : ℕ) → length (decoded c w sheet (suc n) m v s).after.eqs * w ≤ lim → length (left_out s).after.eqs * w ≤ lim
-    left-eqs s lim q =
-        let e = ap (λ (o : Out Row). length o.after.eqs) (whole_is s) in
-        let g = decode_adds 𝓡 (rule_at sheet) n (right_syms 𝓡 lefts rights (left_out s).block) (left_out s).after in
-        let x : length (left_out s).after.eqs ≤ length (decoded c w sheet (suc n) m v s).after.eqs = omega (arith, e, g) in
-        let y : length (left_out s).after.eqs * w ≤ length (decoded c w sheet (suc n) m v s).after.eqs * w = mul-le-mul_right w x in
-        omega arith
+    pub left_room : (a : Walk Row) (lim : ℕ) → Room s (decoded s sheet k m v a) lim → Room s (left_out a) lim
+    left_room a lim R =
+        let x = ap (λ (o : Out Row). o.after.next) (whole_is a) in
+        let y = ap (λ (o : Out Row). length o.after.eqs) (whole_is a) in
+        let f = decode_grows 𝓡 (rule_at sheet) n (right_syms 𝓡 lefts rights (left_out a).block) (left_out a).after in
+        let g = decode_adds 𝓡 (rule_at sheet) n (right_syms 𝓡 lefts rights (left_out a).block) (left_out a).after in
+        let e : length (left_out a).after.eqs * w ≤ length (decoded s sheet k m v a).after.eqs * w = mul-le-mul_right w (omega (arith, y, g)) in
+        record { unknowns = omega (arith, x, f, R.unknowns); equations = omega (arith, e, R.equations); small = R.small }
 
     -- after the left half has come back
-    module _ (vL mL v₂ m₂ v₃ m₃ : List ℕ) (lvL : length vL ≡ h * w) (lmL : length mL ≡ h) (e₂ : v₂ ≡ vL ++ drop (h * w) v₁) (f₂ : m₂ ≡ mL ++ drop h m₁)
-        (lv₃ : length v₃ ≡ h * w + h * w) (lm₃ : length m₃ ≡ h + h) (settled : Settled w h v₂ m₂ v₃ m₃) (v_b m_b : List ℕ) (eB : v_b ≡ drop (h * w) v₃) (fB : m_b ≡ drop h m₃) where
-      rows₂_left : (j : ℕ) → j < h → row w v₂ j ≡ row w vL j
-      rows₂_left j p = ap (λ (x : List ℕ). row w x j) e₂ ∙ row-left w h vL (drop (h * w) v₁) lvL j p
-
-      rows₂_right : (j : ℕ) → row w v₂ (h + j) ≡ row w v₁ (h + j)
-      rows₂_right j = ap (λ (x : List ℕ). row w x (h + j)) e₂ ∙ row-right w h vL (drop (h * w) v₁) lvL j ∙ row_drop w h v₁ (omega arith) j
-
-      mark_right : (p q : List ℕ) → length p ≡ h → (j : ℕ) → get_or (p ++ q) (h + j) 0 ≡ get_or q j 0
-      mark_right p q l j = ap (λ (n : ℕ). get_or (p ++ q) (n + j) 0) (sym l) ∙ get_or-append-add p q j 0
-
-      marks₂_right : (j : ℕ) → get_or m₂ (h + j) 0 ≡ get_or m₁ (h + j) 0
-      marks₂_right j = ap (λ (x : List ℕ). get_or x (h + j) 0) f₂ ∙ mark_right mL (drop h m₁) lmL j ∙ get_or-drop h m₁ j 0
-
-      len_B : length m_b ≡ h
-      len_B = ap length fB ∙ length-drop h m₃ ∙ omega arith
-
+    module _ (vL r₂ : List ℕ) (q₂ : List Mark) (len₂ : length q₂ ≡ h) (settled : Settled w h vL r₁ q₁ r₂ q₂) where
       -- what the right half is given
-      right_is : right_syms 𝓡 lefts rights (rows w h vL) ≡ syms w (length m_b) m_b v_b
+      right_is : right_syms 𝓡 lefts rights (rows w h vL) ≡ syms w (length q₂) q₂ r₂
       right_is =
-          right-tab 𝓡 h (sym_at w m v) (λ (j : ℕ). sym_at w m v (h + j)) (row w vL)
-          ∙ tab_below h (λ (j : ℕ). right_sym 𝓡 (sym_at w m v j) (sym_at w m v (h + j)) (row w vL j)) (sym_at w m_b v_b) (λ j p.
-          sym ((parted.slots j p).right c (row w vL j))
-          ∙ ap₂ (λ (i : ℕ) (r : Row). due i r (row w vL j)) (sym (marks₂_right j)) (sym (rows₂_right j))
-          ∙ ap (due (get_or m₂ (h + j) 0) (row w v₂ (h + j))) (sym (rows₂_left j p))
-          ∙ sym (settled.right j p)
-          ∙ sym (ap₂ slot_of (ap (λ (x : List ℕ). get_or x j 0) fB ∙ get_or-drop h m₃ j 0) (ap (λ (x : List ℕ). row w x j) eB ∙ row_drop w h v₃ (omega arith) j)))
-          ∙ ap (λ (i : ℕ). tab i (sym_at w m_b v_b)) (sym len_B)
+          right-tab 𝓡 h (sym_at w p l) (sym_at w q r) (row w vL)
+          ∙ tab_below h (λ (j : ℕ). right_sym 𝓡 (sym_at w p l j) (sym_at w q r j) (row w vL j)) (sym_at w q₂ r₂) (λ j b.
+          sym ((parted.slots j b).right s.coeffs (row w vL j)) ∙ sym (settled.slots j b))
+          ∙ ap (λ (i : ℕ). tab i (sym_at w q₂ r₂)) (sym len₂)
 
-      module _ (s s₁ : Walk Row) (back : out_of w h vL s₁ ≡ left_out s) where
+      module _ (a a₁ : Walk Row) (back : out_of w h vL a₁ ≡ left_out a) where
         abbrev right_out : Out Row
-        right_out = decoded c w sheet n m_b v_b s₁
+        right_out = decoded s sheet n q₂ r₂ a₁
 
-        pub both_is : decoded c w sheet (suc n) m v s ≡ join_out 𝓡 (out_of w h vL s₁) right_out
+        pub both_is : decoded s sheet k m v a ≡ join_out 𝓡 (out_of w h vL a₁) right_out
         both_is =
-            whole_is s ∙ ap (λ (l : Out Row). join_out 𝓡 l (decode 𝓡 (rule_at sheet) n (right_syms 𝓡 lefts rights l.block) l.after)) (sym back)
-            ∙ ap (λ (x : List (Option Row)). join_out 𝓡 (out_of w h vL s₁) (decode 𝓡 (rule_at sheet) n x s₁)) right_is
+            whole_is a ∙ ap (λ (o : Out Row). join_out 𝓡 o (decode 𝓡 (rule_at sheet) n (right_syms 𝓡 lefts rights o.block) o.after)) (sym back)
+            ∙ ap (λ (x : List (Option Row)). join_out 𝓡 (out_of w h vL a₁) (decode 𝓡 (rule_at sheet) n x a₁)) right_is
 
         -- after the right half has come back
-        pub whole-done : (vR v₄ v₅ : List ℕ) (s₂ : Walk Row) → v₄ ≡ take (h * w) v₃ ++ vR → length vR ≡ h * w → Joined w h v₄ v₅ → out_of w h vR s₂ ≡ right_out → out_of w (length m) v₅ s₂ ≡ decoded c w sheet (suc n) m v s
-        whole-done vR v₄ v₅ s₂ e₄ lR joined r =
-            let lt : length (take (h * w) v₃) ≡ h * w = length-take-le (h * w) v₃ (omega arith) in
-            let L₄ : (j : ℕ) → j < h → row w v₄ j ≡ row w vL j = λ j p. ap (λ (x : List ℕ). row w x j) e₄ ∙ row-left w h (take (h * w) v₃) vR lt j p ∙ row-take w h v₃ (omega arith) j p ∙ settled.left j p ∙ rows₂_left j p in
-            let R₄ : (j : ℕ) → row w v₄ (h + j) ≡ row w vR j = λ j. ap (λ (x : List ℕ). row w x (h + j)) e₄ ∙ row-right w h (take (h * w) v₃) vR lt j in
-            let a : tab h (row w v₅) ≡ sums 𝓡 (rows w h vL) (rows w h vR) =
-            tab_below h (row w v₅) (λ (j : ℕ). row w vL j ⊻ row w vR j) (λ j p. joined.left j p ∙ ap₂ ◌⊻◌ (L₄ j p) (R₄ j)) ∙ sym (sums-tab 𝓡 h (row w vL) (row w vR)) in
-            let b : tab h (λ (j : ℕ). row w v₅ (h + j)) ≡ rows w h vR = tab_below h (λ (j : ℕ). row w v₅ (h + j)) (row w vR) (λ j p. joined.right j p ∙ R₄ j) in
-            let d : rows w (length m) v₅ ≡ sums 𝓡 (rows w h vL) (rows w h vR) ++ rows w h vR = ap (λ (i : ℕ). tab i (row w v₅)) lm ∙ tab_append h h (row w v₅) ∙ ap₂ (λ (x y : List Row). x ++ y) a b in
-            ap (λ (x : List Row). record { block = x; after = s₂ }) d ∙ ap (λ (o : Out Row). join_out 𝓡 (out_of w h vL s₁) o) r ∙ sym both_is
+        pub whole-done : (vR l₃ : List ℕ) (a₂ : Walk Row) → length l₃ ≡ h * w → Joined w h vL vR l₃ → out_of w h vR a₂ ≡ right_out → out_of w (length m) (l₃ ++ vR) a₂ ≡ decoded s sheet k m v a
+        whole-done vR l₃ a₂ len₃ joined b =
+            let x : rows w h l₃ ≡ sums 𝓡 (rows w h vL) (rows w h vR) = tab_below h (row w l₃) (λ (j : ℕ). row w vL j ⊻ row w vR j) joined.slots ∙ sym (sums-tab 𝓡 h (row w vL) (row w vR)) in
+            let d : rows w (length m) (l₃ ++ vR) ≡ sums 𝓡 (rows w h vL) (rows w h vR) ++ rows w h vR =
+            ap (λ (i : ℕ). rows w i (l₃ ++ vR)) H.both ∙ rows_append w h h l₃ vR len₃ ∙ ap {B = List Row} (λ (y : List Row). y ++ rows w h vR) x in
+            ap (λ (y : List Row). record { block = y; after = a₂ }) d ∙ ap (λ (o : Out Row). join_out 𝓡 (out_of w h vL a₁) o) b ∙ sym both_is

@@ -1,278 +1,169 @@
--- What part, settle and join do, slot by slot, and the turns of their loops.
---     part_owed, part_none, part-known                the cases of two slots h apart
---     settle_owed, settle_none                        the two cases of a right slot
---     ..-start, ..-turn, ..-end                       the loops: done below j, as it was from j on
---     halves_added                                    the right half added to the left half at once
+-- What part, settle and join do, slot by slot, and the turns of their loops. The halves have h rows of w words each.
+--     part_owed                           a left slot known alone
+--     settle_owed                         a right slot that is owed its left one
+--     PartUpTo, SettleUpTo                the loops: done below j, as it was from j on
+--     halves_added                        the right half added to the left half at once
 use mathlib.Core.Path.{◌≡◌, refl, sym, ap, ap₂, ◌∙◌}
-use mathlib.Core.Logic.{◌⊎◌, inl, inr, ⊎_elim}
-use Prim.Native.Nat.{ℕ, zero, suc, ◌+◌, ◌*◌, ◌≤◌, ◌<◌}
+use mathlib.Core.Logic.{◌⊎◌, inl, inr}
+use Prim.Native.Nat.{ℕ, ◌+◌, ◌*◌, ◌≤◌, ◌<◌}
 use native.Mathlib.Omega.{arith}
-use native.Mathlib.Nat.{eq-or-lt_of_le, add-mul}
+use native.Mathlib.Nat.{eq-or-lt_of_le}
+use mathlib.Core.Bool.{true, false}
 use mathlib.Core.List.{List}
 use mathlib.Core.Option.{Option, none, some}
-use lib.ListN.{length, set, get_or, length-set}
-use lib.Seq.{paste, get_or-set_same, get_or-set_other, get_or-take, ext_get_or}
+use lib.ListN.{length, set, get_or}
+use lib.Seq.{paste, take_all, get_or-set_same, get_or-set_other, ext_get_or}
 use lib.Bits.{bit_xor}
-use Rattle.bits.specs.Rows.{Row, ◌⊻◌, part, row, copied_within, added_within}
-use Rattle.bits.proofs.Tests.{eq_or_ne}
-use Rattle.bits.proofs.RowLaws.{length_part, get_or_part, row_fit, length-row, row_room, rows_apart}
+use Rattle.bits.specs.Rows.{Row, ◌⊻◌, row, copied, added}
+use Rattle.bits.proofs.RowLaws.{get_or_part, length-row, row_room}
 use Rattle.bits.proofs.RowXor.{length-⊻, get_or-⊻}
-use Rattle.bits.proofs.RowsWritten.{length-written, paste-part, paste-apart, row_same, row_other, copied_within-fits, added_within-fits}
+use Rattle.bits.proofs.RowsWritten.{paste_all, row_same, row_other, copied-fits, added-fits}
 use Rattle.model.specs.Model.{left_sym, right_sym}
 use Rattle.model.specs.RowValues.{row_values}
-use Rattle.descent.specs.Block.{slot_of, due, sym_at, Paired, PartOne, Parted, SettleOne, Settled, Joined}
-
--- ---- rows of a block of n slots, copied or added
-
-module _ (w n i j : ℕ) (v v' : List ℕ) (lv : length v ≡ n * w) (hi : i < n) (hj : j < n) (ne : i ≡ j → ⊥) where
-  pub row_copied : v' ≡ copied_within v (i * w) (j * w) w → v' ≡ paste v (i * w) (row w v j) w
-  row_copied e = e ∙ copied_within-fits v (i * w) (j * w) w (row_room w n v lv i hi) (row_room w n v lv j hj) (rows_apart i j w ne)
-
-  pub row-added : v' ≡ added_within v (i * w) (j * w) w → v' ≡ paste v (i * w) (row w v i ⊻ row w v j) w
-  row-added e = e ∙ added_within-fits v (i * w) (j * w) w (row_room w n v lv i hi) (row_room w n v lv j hj) (rows_apart i j w ne)
+use Rattle.descent.specs.declared.leaf.Mark.{Mark}
+use Rattle.descent.specs.declared.leaf.Mark.TheVariants.{Erased, Known, Owed}
+use Rattle.descent.specs.Block.{is_known, slot_of, due, mark_at, sym_at, Paired, PartOne, Parted, SettleOne, Settled, Joined}
 
 -- ---- symbols
 
-symbol-known : (m : ℕ) (x : Row) → (m ≡ 0 → ⊥) → slot_of m x ≡ some x
-symbol-known zero x ne = absurd (ne refl)
-symbol-known (suc m) x ne = refl
+pub slot-known : (m : Mark) (x : Row) → is_known m ≡ true → slot_of m x ≡ some x
+slot-known Erased x h = absurd (cc)
+slot-known Known x h = refl
+slot-known Owed x h = refl
+
+pub slot-erased : (m : Mark) (x : Row) → is_known m ≡ false → slot_of m x ≡ none
+slot-erased Erased x h = refl
+slot-erased Known x h = absurd (cc)
+slot-erased Owed x h = absurd (cc)
 
 left-none : (c w : ℕ) (s : Option Row) → left_sym (row_values c w) s none ≡ none
 left-none c w none = refl
 left-none c w (some a) = refl
 
-due-known : (m : ℕ) (r x : Row) → 1 < m → due m r x ≡ some (r ⊻ x)
-due-known zero r x p = absurd (omega arith)
-due-known (suc zero) r x p = absurd (omega arith)
-due-known (suc (suc m)) r x p = refl
+-- ---- slot j of both halves
 
-due-plain : (m : ℕ) (r x : Row) → m ≤ 1 → due m r x ≡ slot_of m r
-due-plain zero r x p = refl
-due-plain (suc zero) r x p = refl
-due-plain (suc (suc m)) r x p = absurd (omega arith)
+module _ (w h j : ℕ) (l r : List ℕ) (ll : length l ≡ h * w) (lr : length r ≡ h * w) (hj : j < h) where
+  wide : length (row w l j) ≡ w
+  wide = length-row w h l ll j hj
 
--- ---- two slots, h apart
-
-module _ (w h j : ℕ) (v m : List ℕ) (lm : length m ≡ h + h) (lv : length v ≡ (h + h) * w) (hj : j < h) where
-  abbrev ne : j ≡ h + j → ⊥
-  ne q = omega arith
-
-  -- only the left one known
-  pub part_owed : get_or m (h + j) 0 ≡ 0 → (get_or m j 0 ≡ 0 → ⊥) → (v' m' : List ℕ) → v' ≡ copied_within v ((h + j) * w) (j * w) w → m' ≡ set (set m (h + j) 2) j 0 → PartOne w h j v m v' m'
-  part_owed r l v' m' cv em =
-      let ev = row_copied w (h + h) (h + j) j v v' lv (omega arith) (omega arith) (λ q. ne (sym q)) cv in
-      let lx : length (row w v j) ≡ w = length-row w (h + h) v lv j (omega arith) in
-      let hi : h + j < h + h = omega arith in
-      let a : get_or m' j 0 ≡ 0 = ap (λ (q : List ℕ). get_or q j 0) em ∙ get_or-set_same (set m (h + j) 2) j 0 0 (omega (arith, length-set m (h + j) 2)) in
-      let b : get_or m' (h + j) 0 ≡ 2 = ap (λ (q : List ℕ). get_or q (h + j) 0) em ∙ get_or-set_other (set m (h + j) 2) j (h + j) 0 0 (λ q. ne (sym q)) ∙ get_or-set_same m (h + j) 2 0 (omega arith) in
+  pub part_owed : (p q : List Mark) → length p ≡ h → length q ≡ h → is_known (mark_at p j) ≡ true → is_known (mark_at q j) ≡ false
+      → (r' : List ℕ) → r' ≡ copied r (j * w) l (j * w) w → PartOne w j l r p q r' (set p j Erased) (set q j Owed)
+  part_owed p q lp lq known gone r' e =
+      let none_there = slot-erased (mark_at q j) (row w r j) gone in
+      let ev : r' ≡ paste r (j * w) (row w l j) w = e ∙ copied-fits r (j * w) l (j * w) w (row_room w h r lr j hj) (row_room w h l ll j hj) in
+      let a : mark_at (set p j Erased) j ≡ Erased = get_or-set_same p j Erased Erased (omega arith) in
+      let b : mark_at (set q j Owed) j ≡ Owed = get_or-set_same q j Owed Erased (omega arith) in
       record {
         slots = record {
-          left = λ c. rw (a, r) (sym (left-none c w (sym_at w m v j)));
-          right = λ c x. rw (b, r, row_same w (h + h) v lv (h + j) (row w v j) v' hi lx ev, symbol-known (get_or m j 0) (row w v j) l) refl;
+          left = λ c. rw (a, none_there) (sym (left-none c w (sym_at w p l j)));
+          right = λ c x. rw (b, none_there, row_same w h r lr j (row w l j) r' hj wide ev, slot-known (mark_at p j) (row w l j) known) refl;
         };
-        others = λ i n₁ n₂. (
-          row_other w (h + h) v lv (h + j) (row w v j) v' hi lx ev i n₂,
-          ap (λ (q : List ℕ). get_or q i 0) em ∙ get_or-set_other (set m (h + j) 2) j i 0 0 n₁ ∙ get_or-set_other m (h + j) i 2 0 n₂,
-        );
+        others = λ i n. (row_other w h r lr j (row w l j) r' hj wide ev i n, get_or-set_other p j i Erased Erased n, get_or-set_other q j i Owed Erased n);
       }
 
-  -- none known
-  pub part_none : get_or m (h + j) 0 ≡ 0 → get_or m j 0 ≡ 0 → PartOne w h j v m v m
-  part_none r l = record { slots = record { left = λ c. rw (r, l) refl; right = λ c x. rw (r, l) refl }; others = λ i n₁ n₂. (refl, refl) }
-
-  module _ (r : get_or m (h + j) 0 ≡ 0 → ⊥) (m' : List ℕ) (em : m' ≡ set m (h + j) 1) where
-    left_mark : get_or m' j 0 ≡ get_or m j 0
-    left_mark = ap (λ (q : List ℕ). get_or q j 0) em ∙ get_or-set_other m (h + j) j 1 0 ne
-
-    right_mark : get_or m' (h + j) 0 ≡ 1
-    right_mark = ap (λ (q : List ℕ). get_or q (h + j) 0) em ∙ get_or-set_same m (h + j) 1 0 (omega arith)
-
-    -- both known
-    part-both : (get_or m j 0 ≡ 0 → ⊥) → PartOne w h j v m v m'
-    part-both l =
-        let kj = symbol-known (get_or m j 0) (row w v j) l in
-        let ki = symbol-known (get_or m (h + j) 0) (row w v (h + j)) r in
-        record {
-          slots = record {
-            left = λ c. symbol-known (get_or m' j 0) (row w v j ⊻ row w v (h + j)) (λ q. l (sym left_mark ∙ q)) ∙ sym (ap₂ (left_sym (row_values c w)) kj ki);
-            right = λ c y. rw (right_mark, ki) refl;
-          };
-          others = λ i n₁ n₂. (refl, ap (λ (q : List ℕ). get_or q i 0) em ∙ get_or-set_other m (h + j) i 1 0 n₂);
-        }
-
-    -- only the right one known
-    part_right : get_or m j 0 ≡ 0 → PartOne w h j v m v m'
-    part_right l =
-        let l' : get_or m' j 0 ≡ 0 = left_mark ∙ l in
-        let ki = symbol-known (get_or m (h + j) 0) (row w v (h + j)) r in
-        record {
-          slots = record { left = λ c. rw (l', l) refl; right = λ c y. rw (right_mark, ki) refl };
-          others = λ i n₁ n₂. (refl, ap (λ (q : List ℕ). get_or q i 0) em ∙ get_or-set_other m (h + j) i 1 0 n₂);
-        }
-
-    -- the right one known
-    pub part-known : PartOne w h j v m v m'
-    part-known = ⊎_elim part_right part-both (eq_or_ne (get_or m j 0) 0)
-
-  -- ---- a right slot
-
-  pub settle_owed : 1 < get_or m (h + j) 0 → (v' m' : List ℕ) → v' ≡ added_within v ((h + j) * w) (j * w) w → m' ≡ set m (h + j) 1 → SettleOne w h j v m v' m'
-  settle_owed p v' m' cv em =
-      let ev = row-added w (h + h) (h + j) j v v' lv (omega arith) (omega arith) (λ q. ne (sym q)) cv in
-      let hi : h + j < h + h = omega arith in
-      let x : Row = row w v (h + j) ⊻ row w v j in
-      let lx : length x ≡ w = length-⊻ (row w v (h + j)) (row w v j) w (length-row w (h + h) v lv (h + j) hi) (length-row w (h + h) v lv j (omega arith)) in
-      let b : get_or m' (h + j) 0 ≡ 1 = ap (λ (q : List ℕ). get_or q (h + j) 0) em ∙ get_or-set_same m (h + j) 1 0 (omega arith) in
+  pub settle_owed : (q : List Mark) → length q ≡ h → mark_at q j ≡ Owed → (r' : List ℕ) → r' ≡ added r (j * w) l (j * w) w → SettleOne w j l r q r' (set q j Known)
+  settle_owed q lq owed r' e =
+      let x : Row = row w r j ⊻ row w l j in
+      let lx : length x ≡ w = length-⊻ (row w r j) (row w l j) w (length-row w h r lr j hj) wide in
+      let ev : r' ≡ paste r (j * w) x w = e ∙ added-fits r (j * w) l (j * w) w (row_room w h r lr j hj) (row_room w h l ll j hj) in
+      let b : mark_at (set q j Known) j ≡ Known = get_or-set_same q j Known Erased (omega arith) in
       record {
-        slot = ap₂ slot_of b (row_same w (h + h) v lv (h + j) x v' hi lx ev) ∙ sym (due-known (get_or m (h + j) 0) (row w v (h + j)) (row w v j) p);
-        others = λ i n. (row_other w (h + h) v lv (h + j) x v' hi lx ev i n, ap (λ (q : List ℕ). get_or q i 0) em ∙ get_or-set_other m (h + j) i 1 0 n);
+        slot = rw (b, row_same w h r lr j x r' hj lx ev, owed) refl;
+        others = λ i n. (row_other w h r lr j x r' hj lx ev i n, get_or-set_other q j i Known Erased n);
       }
-
-  pub settle_none : get_or m (h + j) 0 ≤ 1 → SettleOne w h j v m v m
-  settle_none p = record { slot = sym (due-plain (get_or m (h + j) 0) (row w v (h + j)) (row w v j) p); others = λ i n. (refl, refl) }
 
 -- ---- the loops: done below j, as it was from j on
 
-pub record Same (w : ℕ) (v m v' m' : List ℕ) (i : ℕ) : Type 0 where
-  pub row_is : row w v' i ≡ row w v i
-  pub mark_is : get_or m' i 0 ≡ get_or m i 0
+pub record PartUpTo (w j : ℕ) (l r : List ℕ) (p q : List Mark) (r' : List ℕ) (p' q' : List Mark) : Type 0 where
+  pub done : (i : ℕ) → i < j → Paired w i l r p q r' p' q'
+  pub rest : (i : ℕ) → j ≤ i → (row w r' i ≡ row w r i) × (mark_at p' i ≡ mark_at p i) × (mark_at q' i ≡ mark_at q i)
 
-pub record PartUpTo (w h j : ℕ) (v m v' m' : List ℕ) : Type 0 where
-  pub done : (i : ℕ) → i < j → Paired w h i v m v' m'
-  pub left : (i : ℕ) → j ≤ i → i < h → Same w v m v' m' i
-  pub right : (i : ℕ) → j ≤ i → i < h → Same w v m v' m' (h + i)
-
-same_then : (w : ℕ) (v m v' m' v'' m'' : List ℕ) (i : ℕ) → Same w v m v' m' i → (row w v'' i ≡ row w v' i) × (get_or m'' i 0 ≡ get_or m' i 0) → Same w v m v'' m'' i
-same_then w v m v' m' v'' m'' i s (p, q) = record { row_is = p ∙ s.row_is; mark_is = q ∙ s.mark_is }
-
-sym-same : (w : ℕ) (v m v' m' : List ℕ) (i : ℕ) → Same w v m v' m' i → sym_at w m' v' i ≡ sym_at w m v i
-sym-same w v m v' m' i s = ap₂ slot_of s.mark_is s.row_is
-
-pub part-start : (w h : ℕ) (v m : List ℕ) → PartUpTo w h 0 v m v m
-part-start w h v m = record { done = λ i p. absurd (omega arith); left = λ i p q. record { row_is = refl; mark_is = refl }; right = λ i p q. record { row_is = refl; mark_is = refl } }
+pub part-start : (w : ℕ) (l r : List ℕ) (p q : List Mark) → PartUpTo w 0 l r p q r p q
+part-start w l r p q = record { done = λ i p. absurd (omega arith); rest = λ i p. (refl, refl, refl) }
 
 below_suc : (i j : ℕ) → i < j + 1 → (i ≡ j) ⊎ (i < j)
 below_suc i j p = let q : i ≤ j = omega arith in eq-or-lt_of_le q
 
-pub part_turn : {w h j : ℕ} {v m v' m' v'' m'' : List ℕ} → j < h → PartUpTo w h j v m v' m' → PartOne w h j v' m' v'' m'' → PartUpTo w h (j + 1) v m v'' m''
-part_turn {w} {h} {j} {v} {m} {v'} {m'} {v''} {m''} hj u o =
+pub part_turn : {w j : ℕ} {l r : List ℕ} {p q : List Mark} {r' : List ℕ} {p' q' : List Mark} {r'' : List ℕ} {p'' q'' : List Mark}
+    → PartUpTo w j l r p q r' p' q' → PartOne w j l r' p' q' r'' p'' q'' → PartUpTo w (j + 1) l r p q r'' p'' q''
+part_turn {w} {j} {l} {r} {p} {q} {r'} {p'} {q'} {r''} {p''} {q''} u o =
     record {
-      done = λ i p. go i (below_suc i j p);
-      left = λ i p q. same_then w v m v' m' v'' m'' i (u.left i (omega arith) q) (o.others i (λ z. omega arith) (λ z. omega arith));
-      right = λ i p q. same_then w v m v' m' v'' m'' (h + i) (u.right i (omega arith) q) (o.others (h + i) (λ z. omega arith) (λ z. omega arith));
+      done = λ i h. go i (below_suc i j h);
+      rest = λ i h. let a = o.others i (λ z. omega arith) in let b = u.rest i (omega arith) in (a.0 ∙ b.0, a.1 ∙ b.1, a.2 ∙ b.2);
     }
   where
-    go : (i : ℕ) → (i ≡ j) ⊎ (i < j) → Paired w h i v m v'' m''
+    go : (i : ℕ) → (i ≡ j) ⊎ (i < j) → Paired w i l r p q r'' p'' q''
     go i (inl e) =
-        let sl : sym_at w m' v' j ≡ sym_at w m v j = sym-same w v m v' m' j (u.left j (omega arith) hj) in
-        let sr : sym_at w m' v' (h + j) ≡ sym_at w m v (h + j) = sym-same w v m v' m' (h + j) (u.right j (omega arith) hj) in
+        let b = u.rest j (omega arith) in
+        let sl : sym_at w p' l j ≡ sym_at w p l j = ap (λ (m : Mark). slot_of m (row w l j)) b.1 in
+        let sr : sym_at w q' r' j ≡ sym_at w q r j = ap₂ slot_of b.2 b.0 in
         rw e record {
           left = λ c. o.slots.left c ∙ ap₂ (left_sym (row_values c w)) sl sr;
           right = λ c x. o.slots.right c x ∙ ap₂ (λ (s t : Option Row). right_sym (row_values c w) s t x) sl sr;
         }
-    go i (inr p) =
-        let a = o.others i (λ z. omega arith) (λ z. omega arith) in
-        let b = o.others (h + i) (λ z. omega arith) (λ z. omega arith) in
+    go i (inr h) =
+        let a = o.others i (λ z. omega arith) in
         record {
-          left = λ c. ap₂ slot_of a.1 (ap₂ ◌⊻◌ a.0 b.0) ∙ (u.done i p).left c;
-          right = λ c x. ap₂ (λ (n : ℕ) (r : Row). due n r x) b.1 b.0 ∙ (u.done i p).right c x;
+          left = λ c. ap₂ slot_of a.1 (ap (λ (x : Row). row w l i ⊻ x) a.0) ∙ (u.done i h).left c;
+          right = λ c x. ap₂ (λ (m : Mark) (y : Row). due m y x) a.2 a.0 ∙ (u.done i h).right c x;
         }
 
-pub part_end : {w h j : ℕ} {v m v' m' v'' : List ℕ} → h ≤ j → PartUpTo w h j v m v' m' → Joined w h v' v'' → Parted w h v m v'' m'
-part_end {w} {h} {j} {v} {m} {v'} {m'} {v''} p u o =
+pub part_end : {w h j : ℕ} {l r : List ℕ} {p q : List Mark} {r' : List ℕ} {p' q' : List Mark} {l' : List ℕ}
+    → h ≤ j → Joined w h l r' l' → PartUpTo w j l r p q r' p' q' → Parted w h l r p q l' r' p' q'
+part_end {p' = p'} k o u =
     record {
-      slots = λ i q. record {
-        left = λ c. ap (slot_of (get_or m' i 0)) (o.left i q) ∙ (u.done i (omega arith)).left c;
-        right = λ c x. ap (λ (r : Row). due (get_or m' (h + i) 0) r x) (o.right i q) ∙ (u.done i (omega arith)).right c x;
+      slots = λ i b. record {
+        left = λ c. ap (slot_of (mark_at p' i)) (o.slots i b) ∙ (u.done i (omega arith)).left c;
+        right = λ c x. (u.done i (omega arith)).right c x;
       };
     }
 
-pub record SettleUpTo (w h j : ℕ) (v m v' m' : List ℕ) : Type 0 where
-  pub done : (i : ℕ) → i < j → sym_at w m' v' (h + i) ≡ due (get_or m (h + i) 0) (row w v (h + i)) (row w v i)
-  pub left : (i : ℕ) → i < h → row w v' i ≡ row w v i
-  pub right : (i : ℕ) → j ≤ i → i < h → Same w v m v' m' (h + i)
+pub record SettleUpTo (w j : ℕ) (l r : List ℕ) (q : List Mark) (r' : List ℕ) (q' : List Mark) : Type 0 where
+  pub done : (i : ℕ) → i < j → sym_at w q' r' i ≡ due (mark_at q i) (row w r i) (row w l i)
+  pub rest : (i : ℕ) → j ≤ i → (row w r' i ≡ row w r i) × (mark_at q' i ≡ mark_at q i)
 
-pub settle_start : (w h : ℕ) (v m : List ℕ) → SettleUpTo w h 0 v m v m
-settle_start w h v m = record { done = λ i p. absurd (omega arith); left = λ i p. refl; right = λ i p q. record { row_is = refl; mark_is = refl } }
+pub settle_start : (w : ℕ) (l r : List ℕ) (q : List Mark) → SettleUpTo w 0 l r q r q
+settle_start w l r q = record { done = λ i p. absurd (omega arith); rest = λ i p. (refl, refl) }
 
-pub settle_turn : {w h j : ℕ} {v m v' m' v'' m'' : List ℕ} → j < h → SettleUpTo w h j v m v' m' → SettleOne w h j v' m' v'' m'' → SettleUpTo w h (j + 1) v m v'' m''
-settle_turn {w} {h} {j} {v} {m} {v'} {m'} {v''} {m''} hj u o =
+pub settle_turn : {w j : ℕ} {l r : List ℕ} {q : List Mark} {r' : List ℕ} {q' : List Mark} {r'' : List ℕ} {q'' : List Mark}
+    → SettleUpTo w j l r q r' q' → SettleOne w j l r' q' r'' q'' → SettleUpTo w (j + 1) l r q r'' q''
+settle_turn {w} {j} {l} {r} {q} {r'} {q'} {r''} {q''} u o =
     record {
-      done = λ i p. go i (below_suc i j p);
-      left = λ i p. (o.others i (λ z. omega arith)).0 ∙ u.left i p;
-      right = λ i p q. same_then w v m v' m' v'' m'' (h + i) (u.right i (omega arith) q) (o.others (h + i) (λ z. omega arith));
+      done = λ i h. go i (below_suc i j h);
+      rest = λ i h. let a = o.others i (λ z. omega arith) in let b = u.rest i (omega arith) in (a.0 ∙ b.0, a.1 ∙ b.1);
     }
   where
-    go : (i : ℕ) → (i ≡ j) ⊎ (i < j) → sym_at w m'' v'' (h + i) ≡ due (get_or m (h + i) 0) (row w v (h + i)) (row w v i)
-    go i (inl e) =
-        let s = u.right j (omega arith) hj in
-        rw e (o.slot ∙ ap₂ (λ (n : ℕ) (r : Row). due n r (row w v' j)) s.mark_is s.row_is ∙ ap (due (get_or m (h + j) 0) (row w v (h + j))) (u.left j hj))
-    go i (inr p) = let b = o.others (h + i) (λ z. omega arith) in ap₂ slot_of b.1 b.0 ∙ u.done i p
+    go : (i : ℕ) → (i ≡ j) ⊎ (i < j) → sym_at w q'' r'' i ≡ due (mark_at q i) (row w r i) (row w l i)
+    go i (inl e) = let b = u.rest j (omega arith) in rw e (o.slot ∙ ap₂ (λ (m : Mark) (y : Row). due m y (row w l j)) b.1 b.0)
+    go i (inr h) = let a = o.others i (λ z. omega arith) in ap₂ slot_of a.1 a.0 ∙ u.done i h
 
-pub settle_end : {w h j : ℕ} {v m v' m' : List ℕ} → h ≤ j → SettleUpTo w h j v m v' m' → Settled w h v m v' m'
-settle_end p u = record { left = u.left; right = λ i q. u.done i (omega arith) }
+pub settle_end : {w h j : ℕ} {l r : List ℕ} {q : List Mark} {r' : List ℕ} {q' : List Mark} → h ≤ j → SettleUpTo w j l r q r' q' → Settled w h l r q r' q'
+settle_end k u = record { slots = λ i b. u.done i (omega arith) }
 
 -- ---- the right half added to the left half, as one row of h * w words
 
-module _ (w h : ℕ) (v v' : List ℕ) (lv : length v ≡ (h + h) * w) (e : v' ≡ added_within v 0 (h * w) (h * w)) where
-  abbrev half : ℕ
-  half = h * w
+pub halves_added : (w h k : ℕ) (l r l' : List ℕ) → length l ≡ length r → length r ≡ h * w → k ≡ length r → l' ≡ added l 0 r 0 k → Joined w h l r l'
+halves_added w h k l r l' same lr ek e = record { slots = λ j hj. ext_get_or 0 (row w l' j) (row w l j ⊻ row w r j) (len j hj) (λ i b. word j hj i (omega (arith, long j hj))) }
+  where
+    ll : length l ≡ h * w
+    ll = same ∙ lr
 
-  both : length v ≡ half + half
-  both = lv ∙ add-mul h h w
+    whole : l' ≡ l ⊻ r
+    whole =
+        e ∙ ap (added l 0 r 0) ek ∙ added-fits l 0 r 0 (length r) (omega arith) (omega arith)
+        ∙ ap₂ (λ (x y : Row). paste l 0 (x ⊻ y) (length r)) (take_all (length r) l (omega arith)) (take_all (length r) r (omega arith))
+        ∙ paste_all l (l ⊻ r) (length r) same (length-⊻ l r (length r) same refl)
 
-  abbrev sum : Row
-  sum = part half 0 v ⊻ part half half v
+    size : length l' ≡ h * w
+    size = ap length whole ∙ length-⊻ l r (h * w) ll lr
 
-  length-sum : length sum ≡ half
-  length-sum = length-⊻ (part half 0 v) (part half half v) half (length_part v 0 half (omega (arith, both))) (length_part v half half (omega (arith, both)))
+    long : (j : ℕ) → j < h → length (row w l' j) ≡ w
+    long j hj = length-row w h l' size j hj
 
-  written : v' ≡ paste v 0 sum half
-  written = e ∙ added_within-fits v 0 half half (omega (arith, both)) (omega (arith, both)) (inl (omega arith))
+    len : (j : ℕ) → j < h → length (row w l' j) ≡ length (row w l j ⊻ row w r j)
+    len j hj = long j hj ∙ sym (length-⊻ (row w l j) (row w r j) w (length-row w h l ll j hj) (length-row w h r lr j hj))
 
-  size : length v' ≡ (h + h) * w
-  size = ap length written ∙ length-written v sum 0 half (omega (arith, both)) length-sum ∙ lv
-
-  module _ (j : ℕ) (q : j < h) where
-    here : j * w + w ≤ half
-    here = row_fit j h w q
-
-    there : (h + j) * w ≡ half + j * w
-    there = add-mul h j w
-
-    left_word : (k : ℕ) → k < w → get_or (row w v' j) k 0 ≡ get_or (row w v j ⊻ row w v (h + j)) k 0
-    left_word k l =
-        let f = here in
-        get_or_part v' (j * w) w k l
-        ∙ sym (get_or-take half v' (j * w + k) 0 (omega arith))
-        ∙ ap (λ (x : Row). get_or x (j * w + k) 0) (ap (part half 0) written ∙ paste-part v sum 0 half (omega (arith, both)) length-sum)
-        ∙ get_or-⊻ (part half 0 v) (part half half v) (j * w + k)
-        ∙ ap₂ bit_xor (get_or-take half v (j * w + k) 0 (omega arith) ∙ sym (get_or_part v (j * w) w k l))
-        (get_or_part v half half (j * w + k) (omega arith) ∙ ap (λ (i : ℕ). get_or v i 0) (let z : half + (j * w + k) ≡ (h + j) * w + k = omega (arith, there) in z) ∙ sym (get_or_part v ((h + j) * w) w k l))
-        ∙ sym (get_or-⊻ (row w v j) (row w v (h + j)) k)
-
-    right_word : (k : ℕ) → k < w → get_or (row w v' (h + j)) k 0 ≡ get_or (row w v (h + j)) k 0
-    right_word k l =
-        let f = here in
-        let z : (h + j) * w + k ≡ half + (j * w + k) = omega (arith, there) in
-        get_or_part v' ((h + j) * w) w k l ∙ ap (λ (i : ℕ). get_or v' i 0) z
-        ∙ sym (get_or_part v' half half (j * w + k) (omega arith))
-        ∙ ap (λ (x : Row). get_or x (j * w + k) 0) (ap (part half half) written ∙ paste-apart v sum 0 half (omega (arith, both)) length-sum half (inl (omega arith)))
-        ∙ get_or_part v half half (j * w + k) (omega arith) ∙ ap (λ (i : ℕ). get_or v i 0) (sym z) ∙ sym (get_or_part v ((h + j) * w) w k l)
-
-    wide : (l : List ℕ) → length l ≡ (h + h) * w → (i : ℕ) → i < h + h → length (row w l i) ≡ w
-    wide l ll i p = length-row w (h + h) l ll i p
-
-    left-row : row w v' j ≡ row w v j ⊻ row w v (h + j)
-    left-row =
-        let a = wide v' size j (omega arith) in
-        let b = length-⊻ (row w v j) (row w v (h + j)) w (wide v lv j (omega arith)) (wide v lv (h + j) (omega arith)) in
-        ext_get_or 0 (row w v' j) (row w v j ⊻ row w v (h + j)) (a ∙ sym b) (λ k l. left_word k (omega arith))
-
-    right-row : row w v' (h + j) ≡ row w v (h + j)
-    right-row =
-        let a = wide v' size (h + j) (omega arith) in
-        ext_get_or 0 (row w v' (h + j)) (row w v (h + j)) (a ∙ sym (wide v lv (h + j) (omega arith))) (λ k l. right_word k (omega arith))
-
-  pub halves_added : Joined w h v v'
-  halves_added = record { left = left-row; right = right-row }
+    word : (j : ℕ) → j < h → (k : ℕ) → k < w → get_or (row w l' j) k 0 ≡ get_or (row w l j ⊻ row w r j) k 0
+    word j hj k b =
+        get_or_part l' (j * w) w k b ∙ ap (λ (x : Row). get_or x (j * w + k) 0) whole ∙ get_or-⊻ l r (j * w + k)
+        ∙ ap₂ bit_xor (sym (get_or_part l (j * w) w k b)) (sym (get_or_part r (j * w) w k b)) ∙ sym (get_or-⊻ (row w l j) (row w r j) k)

@@ -4,7 +4,8 @@
 --     fitting              whether all that is handed over fits together
 --     Outcome, descended   an answer, and what the three lists hold
 --     descending           the answer and the lists after the call
-use Rattle.std.specs.Prelude.{◌≡◌, ℕ, ◌-◌, ◌*◌, ◌^◌, ◌≤◌, ◌<◌, Bool, ◌&&◌, length, replicate, eqb, leb, ltb}
+--     refused              what stops a descent, as a refusal
+use Rattle.std.specs.Prelude.{◌≡◌, ℕ, ◌-◌, ◌*◌, ◌^◌, ◌≤◌, ◌<◌, Bool, ◌&&◌, length, replicate, eqb, leb, ltb, Result, Ok, Err}
 use mathlib.Core.List.{List, ◌++◌, flatten}
 use Rattle.bits.specs.Vectors.{pick}
 use Rattle.bits.specs.Rows.{Row, row}
@@ -14,8 +15,11 @@ use Rattle.meaning.specs.Open.{unknowns}
 use Rattle.sheet.specs.Shapes.{shaped}
 use Rattle.model.specs.Model.{Out}
 use Rattle.model.specs.RowValues.{rows_out}
-use Rattle.descent.specs.declared.Descent.{Descent}
-use Rattle.descent.specs.declared.Descent.TheVariants.{Misfit, Over, Done}
+use Rattle.meaning.specs.declared.Refused.{Refused}
+use Rattle.meaning.specs.declared.Refused.TheVariants.{BadShape, TooMany}
+use Rattle.descent.specs.declared.Found.{Found}
+use Rattle.descent.specs.declared.Stop.{Stop}
+use Rattle.descent.specs.declared.Stop.TheVariants.{Misfit, Over}
 
 -- ---- what fits together, by its lengths
 
@@ -36,12 +40,12 @@ fitting n sheet word most c w vals us eqs = shaped n sheet word && (roomy most c
 -- ---- the promise
 
 pub record Outcome : Type 0 where
-  pub answer : Descent
+  pub answer : Result Found Stop
   pub vals : List ℕ
   pub us : List ℕ
   pub eqs : List ℕ
 
-abbrev pub descended : Descent → List ℕ → List ℕ → List ℕ → Outcome
+abbrev pub descended : Result Found Stop → List ℕ → List ℕ → List ℕ → Outcome
 descended a vals us eqs = record { answer = a; vals = vals; us = us; eqs = eqs }
 
 -- the model on known symbols whose rows are in a list
@@ -52,15 +56,20 @@ found n sheet word c w vals = rows_out c w (rule_at sheet) n word (row w vals)
 abbrev pub written : ℕ → ℕ → ℕ → Out Row → Outcome
 written k g w o =
     let m = length o.after.eqs in
-    descended (Done g m) (flatten o.block) (flatten o.after.us) (flatten o.after.eqs ++ replicate (k - m * w) 0)
+    descended (Ok (record { g = g; m = m })) (flatten o.block) (flatten o.after.us) (flatten o.after.eqs ++ replicate (k - m * w) 0)
 
 -- what does not fit, and too many unknowns, leave the lists as found
 unfoldable pub descending : ℕ → List ℕ → List ℕ → ℕ → ℕ → ℕ → List ℕ → List ℕ → List ℕ → Outcome
 descending n sheet word most c w vals us eqs =
     let g = unknowns n (rules n sheet) word in
     pick (fitting n (length sheet) (length word) most c w (length vals) (length us) (length eqs))
-    (pick (ltb most g) (descended (Over g) vals us eqs) (written (length eqs) g w (found n sheet word c w vals)))
-    (descended Misfit vals us eqs)
+    (pick (ltb most g) (descended (Err (Over g)) vals us eqs) (written (length eqs) g w (found n sheet word c w vals)))
+    (descended (Err Misfit) vals us eqs)
+
+-- what stops a descent, as a refusal of an engine's call
+abbrev pub refused : Stop → Refused
+refused Misfit = BadShape
+refused (Over g) = TooMany g
 
 -- ---- the descent alone, of what fits together
 

@@ -18,8 +18,7 @@ use Rattle.bits.proofs.Tests.{and_i, length-tab}
 use Rattle.bits.proofs.RowLaws.{rows-flatten, flatten-rows, wide_rows, length-flatten}
 use Rattle.bits.proofs.Records.{flatten_append}
 use Rattle.gf2.specs.Solve.{Sys, solve, fits, done, solved}
-use Rattle.gf2.specs.declared.Outcome.{Outcome}
-use Rattle.gf2.specs.declared.Outcome.TheVariants.{Misfit, Rank}
+use Rattle.std.specs.Prelude.{Option, Some, None, Ok}
 use Rattle.gf2.proofs.Calls.{all_fit, Left, left}
 use Rattle.verdict.proofs.Fitting.{nothing-over}
 use Rattle.descent.specs.Descending.{widest}
@@ -27,8 +26,8 @@ use Rattle.sheet.proofs.Shapes.{recorded_when}
 use Rattle.checks.specs.Checking.{spaced, check_fits, checked, check_of, checking}
 use Rattle.checks.proofs.Columns.{length-check, check-wide}
 use Rattle.checks.proofs.Promise.{check-tells}
+use Rattle.system.specs.declared.Terms.{Terms}
 use Rattle.system.specs.Solving.{leaves, Settling, settled}
-use Rattle.system.specs.declared.System.TheVariants.{Solved}
 
 wide_append : (w : ℕ) (a b : List Row) → Wide w a → Wide w b → Wide w (a ++ b)
 wide_append w [] b p q = q
@@ -62,8 +61,20 @@ module _ (w k : ℕ) (l : List ℕ) (some : 0 < w) (e : length l ≡ k * w) wher
 
 -- ---- the last step
 
-module _ (c w n : ℕ) (s : List ℕ) (r m : ℕ) (vals us eqs : List ℕ) (S : Settling c w n s r m vals us eqs) (t : Bool) (e : List ℕ)
-    (q : checked t e ≡ checking n s r c w us m eqs) where
+module _ (t : Terms) (s : List ℕ) (m : ℕ) (vals us eqs : List ℕ) (S : Settling t s m vals us eqs) (b : Bool) (e : List ℕ)
+    (q : checked b e ≡ checking t.n s t.r t.coeffs t.words us m eqs) where
+  abbrev n : ℕ
+  n = t.n
+
+  abbrev r : ℕ
+  r = t.r
+
+  abbrev c : ℕ
+  c = t.coeffs
+
+  abbrev w : ℕ
+  w = t.words
+
   some : 0 < w
   some = omega (arith, S.constant)
 
@@ -86,7 +97,7 @@ module _ (c w n : ℕ) (s : List ℕ) (r m : ℕ) (vals us eqs : List ℕ) (S : 
   X = take (m * w) eqs ++ flatten (check_of n s r c w us)
 
   words : flatten E ≡ X
-  words = flatten_append (rows w m eqs) (check_of n s r c w us) ∙ ap {B = List ℕ} (λ t. t ++ flatten (check_of n s r c w us)) (flatten-rows w m eqs)
+  words = flatten_append (rows w m eqs) (check_of n s r c w us) ∙ ap {B = List ℕ} (λ x. x ++ flatten (check_of n s r c w us)) (flatten-rows w m eqs)
 
   wide : Wide w E
   wide = wide_append w (rows w m eqs) (check_of n s r c w us) (wide_rows w m eqs (omega (arith, S.rows_e, add-mul m r w))) (check-wide n s r c w us S.constant S.rows_u)
@@ -98,7 +109,7 @@ module _ (c w n : ℕ) (s : List ℕ) (r m : ℕ) (vals us eqs : List ℕ) (S : 
   X-length = ap length (sym words) ∙ length-flatten w E wide ∙ ap (λ (k : ℕ). k * w) many
 
   told : e ≡ X ++ drop K eqs
-  told = check-tells n s r c w us m eqs check-fits t e q
+  told = check-tells n s r c w us m eqs check-fits b e q
 
   part : take K e ≡ X
   part = ap (take K) told ∙ take_at X (drop K eqs) K X-length
@@ -115,7 +126,7 @@ module _ (c w n : ℕ) (s : List ℕ) (r m : ℕ) (vals us eqs : List ℕ) (S : 
   abbrev Z : Sys
   Z = solve c E (rows w (2 ^ n) vals)
 
-  module _ (x v : List ℕ) (o : Outcome) (h : done x v o ≡ solved c w (take K e) vals) where
+  module _ (x v : List ℕ) (o : Option ℕ) (h : done x v o ≡ solved c w (take K e) vals) where
     fit : fits c w (take K e) vals ≡ true
     fit =
         all_fit c w (take K e) vals (λ (z : w ≡ 0). absurd (omega (arith, some))) (omega (arith, S.constant))
@@ -127,15 +138,15 @@ module _ (c w n : ℕ) (s : List ℕ) (r m : ℕ) (vals us eqs : List ℕ) (S : 
     solved-is : solve c (rows_of w (take K e)) (rows_of w vals) ≡ Z
     solved-is = ap₂ (solve c) read (rows_whole w (2 ^ n) vals some S.rows_v)
 
-    pub never_misfit : {A : Type 0} → o ≡ Misfit → A
-    never_misfit p = let k = L.rank_is in let z : ◌≡◌ {A = ℕ} 0 1 = cc in absurd (omega arith)
+    pub never_misfit : {A : Type 0} → o ≡ None → A
+    never_misfit p = let k = L.rank_is in absurd (cc)
 
-    pub last : (g k : ℕ) → o ≡ Rank k → length x ≡ length (take K e) → length v ≡ length vals
-        → leaves (Solved g (m + r) k) v us (x ++ drop K e) ≡ settled c w n s r g m vals us eqs
+    pub last : (g k : ℕ) → o ≡ Some k → length x ≡ length (take K e) → length v ≡ length vals
+        → leaves (Ok (record { g = g; m = m + r; rank = k })) v us (x ++ drop K e) ≡ settled t s (record { g = g; m = m }) vals us eqs
     last g k p lx lv =
         let i = L.rank_is in
         let rank : k ≡ (solve c (rows_of w (take K e)) (rows_of w vals)).rank = cc in
         let ev = words_of w (2 ^ n) v some (lv ∙ S.rows_v) Z.rest (L.rest_are ∙ ap (λ (z : Sys). z.rest) solved-is) in
         let ex = words_of w (m + r) x some (lx ∙ part_length) Z.eqs (L.eqs_are ∙ ap (λ (z : Sys). z.eqs) solved-is) in
         let er : k ≡ Z.rank = rank ∙ ap (λ (z : Sys). z.rank) solved-is in
-        λ j. leaves (Solved g (m + r) (er j)) (ev j) us (ex j ++ behind j)
+        λ j. leaves (Ok (record { g = g; m = m + r; rank = er j })) (ev j) us (ex j ++ behind j)

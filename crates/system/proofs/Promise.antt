@@ -1,8 +1,8 @@
 -- What the promise of `solve` comes to.
---     misfit, unfit, over, settling, solved_as     its cases, in the values that the code has by then
+--     misfit, stopped, settling, solved_as         its cases, in the values that the code has by then
 --     all_fit                     what fits together
---     never_misfit, over-tells    then the answer is not Misfit, and Over exactly where there are too many unknowns
---     Solution, solved-tells      what a caller has after Solved: the numbers are 01's, and the rows are those of the solver
+--     never_misfit, over-tells    then the call is not a Misfit, and Over exactly where there are too many unknowns
+--     Solution, solved-tells      what a caller has after Ok: the numbers are 01's, and the rows are those of the solver
 --     rank_few                    the rank is at most g, where the placed rows have no coefficient from g on
 --     solve_determined            any two results that the promise allows are equal
 use mathlib.Core.Path.{◌≡◌, refl, sym, ap, ap₂, ◌∙◌}
@@ -14,6 +14,7 @@ use mathlib.Core.List.{List, ◌++◌, flatten}
 use lib.ListN.{length, take, drop, replicate, length-append}
 use lib.Seq.{take_at, drop_at, drop-drop, length-take-le}
 use lib.Dec.{ltb}
+use Rattle.std.specs.Prelude.{Result, Ok, Err}
 use borrow.Author.Tests.{lt-ltb, le-ltb, ltb-true, ltb-false, not-true, not-false, eq-eqb, le-leb}
 use Rattle.bits.specs.Vectors.{pick, tab}
 use Rattle.bits.specs.Rows.{Row, row, rows, rows_of}
@@ -36,13 +37,14 @@ use Rattle.meaning.specs.Answers.{check_length}
 use Rattle.sheet.proofs.Shapes.{shaped_when}
 use Rattle.descent.specs.Descending.{widest, roomy, filled, descended, descending, written, found}
 use Rattle.descent.specs.Descending as descent
-use Rattle.descent.specs.declared.Descent.{Descent}
-use Rattle.descent.specs.declared.Descent.TheVariants as down
+use Rattle.descent.specs.declared.Found.{Found}
+use Rattle.descent.specs.declared.Stop.{Stop}
+use Rattle.descent.specs.declared.Stop.TheVariants.{Misfit, Over}
 use Rattle.descent.proofs.Fitting.{fitting-true}
 use Rattle.descent.proofs.Promise.{Told, done-tells}
 use Rattle.system.specs.Solving.{spaced, fitting, Outcome, leaves, reduced, solving, Settling, settled}
-use Rattle.system.specs.declared.System.{System}
-use Rattle.system.specs.declared.System.TheVariants.{Misfit, Over, Solved}
+use Rattle.system.specs.declared.Solved.{Solved}
+use Rattle.system.specs.declared.Terms.{Terms}
 use Rattle.system.proofs.Testing.{spaced-true}
 use Rattle.system.proofs.LastStep.{rows_whole}
 
@@ -66,6 +68,9 @@ module _ (n r most c w : ℕ) (s d vals us eqs : List ℕ) where
   abbrev E : List Row
   E = rows_system c w (rule_at s) n d (row w vals) r
 
+  abbrev T₀ : Terms
+  T₀ = record { n = n; r = r; most = most; coeffs = c; words = w }
+
   -- all but the room for the check's rows fits
   abbrev D : Bool
   D = descent.fitting n (length s) (length d) most c w (length vals) (length us) (length eqs)
@@ -74,46 +79,39 @@ module _ (n r most c w : ℕ) (s d vals us eqs : List ℕ) where
   after = solving n r most c w s d vals us eqs
 
   module _ {t : Bool} (p : t ≡ spaced r w (length vals) (length eqs)) where
-    pub misfit : not t ≡ true → leaves Misfit vals us eqs ≡ after
+    pub misfit : not t ≡ true → leaves (Err Misfit) vals us eqs ≡ after
     unfolding solving fitting
     misfit h = rw (sym p ∙ not-true t h) refl
 
-    module _ (h : not t ≡ false) (a : Descent) (v u e : List ℕ) (q : descended a v u e ≡ descending n s d most c w vals us eqs) where
+    module _ (h : not t ≡ false) (a : Result Found Stop) (v u e : List ℕ) (q : descended a v u e ≡ descending n s d most c w vals us eqs) where
       room : spaced r w (length vals) (length eqs) ≡ true
       room = sym p ∙ not-false t h
 
       -- the definition, where there is room
-      at_room : after ≡ pick D (pick (ltb most G) (leaves (Over G) vals us eqs) (reduced n r c w s d vals G)) (leaves Misfit vals us eqs)
+      at_room : after ≡ pick D (pick (ltb most G) (leaves (Err (Over G)) vals us eqs) (reduced n r c w s d vals G)) (leaves (Err Misfit) vals us eqs)
       unfolding solving fitting
       at_room = rw room refl
 
-      abbrev given : Descent → descent.Outcome
+      abbrev given : Result Found Stop → descent.Outcome
       given x = descended x v u e
 
-      pub unfit : a ≡ down.Misfit → leaves Misfit v u e ≡ after
+      pub stopped : (o : Stop) → a ≡ Err o → leaves (Err o) v u e ≡ after
       unfolding descending
-      unfit x = go D (ltb most G) (ap given (sym x) ∙ q) ∙ sym at_room
+      stopped o x = go D (ltb most G) (ap given (sym x) ∙ q) ∙ sym at_room
         where
-          go : (b f : Bool) → given down.Misfit ≡ pick b (pick f (descended (down.Over G) vals us eqs) (written (length eqs) G w (found n s d c w vals))) (descended down.Misfit vals us eqs)
-              → leaves Misfit v u e ≡ pick b (pick f (leaves (Over G) vals us eqs) (reduced n r c w s d vals G)) (leaves Misfit vals us eqs)
-          go false f z = ap (λ (y : descent.Outcome). leaves Misfit y.vals y.us y.eqs) z
-          go true true z = let y = ap (λ (y : descent.Outcome). y.answer) z in let k : ◌≡◌ {A = ℕ} 0 1 = cc in absurd (omega arith)
-          go true false z = let y = ap (λ (y : descent.Outcome). y.answer) z in let k : ◌≡◌ {A = ℕ} 0 1 = cc in absurd (omega arith)
-
-      pub over : (g : ℕ) → a ≡ down.Over g → leaves (Over g) v u e ≡ after
-      unfolding descending
-      over g x = go D (ltb most G) (ap given (sym x) ∙ q) ∙ sym at_room
-        where
-          go : (b f : Bool) → given (down.Over g) ≡ pick b (pick f (descended (down.Over G) vals us eqs) (written (length eqs) G w (found n s d c w vals))) (descended down.Misfit vals us eqs)
-              → leaves (Over g) v u e ≡ pick b (pick f (leaves (Over G) vals us eqs) (reduced n r c w s d vals G)) (leaves Misfit vals us eqs)
-          go false f z = let y = ap (λ (y : descent.Outcome). y.answer) z in let k : ◌≡◌ {A = ℕ} 0 1 = cc in absurd (omega arith)
+          go : (b f : Bool) → given (Err o) ≡ pick b (pick f (descended (Err (Over G)) vals us eqs) (written (length eqs) G w (found n s d c w vals))) (descended (Err Misfit) vals us eqs)
+              → leaves (Err o) v u e ≡ pick b (pick f (leaves (Err (Over G)) vals us eqs) (reduced n r c w s d vals G)) (leaves (Err Misfit) vals us eqs)
+          go false f z =
+              let y = ap (λ (y : descent.Outcome). y.answer) z in
+              let k : o ≡ Misfit = cc in
+              ap₂ (λ (i : Stop) (y : descent.Outcome). leaves (Err i) y.vals y.us y.eqs) k z
           go true true z =
               let y = ap (λ (y : descent.Outcome). y.answer) z in
-              let k : g ≡ G = cc in
-              ap₂ (λ (i : ℕ) (y : descent.Outcome). leaves (Over i) y.vals y.us y.eqs) k z
-          go true false z = let y = ap (λ (y : descent.Outcome). y.answer) z in let k : ◌≡◌ {A = ℕ} 0 1 = cc in absurd (omega arith)
+              let k : o ≡ Over G = cc in
+              ap₂ (λ (i : Stop) (y : descent.Outcome). leaves (Err i) y.vals y.us y.eqs) k z
+          go true false z = let y = ap (λ (y : descent.Outcome). y.answer) z in absurd (cc)
 
-      module _ (g m : ℕ) (x : a ≡ down.Done g m) (kv : length v ≡ length vals) (ku : length u ≡ length us) (ke : length e ≡ length eqs) where
+      module _ (g m : ℕ) (x : a ≡ Ok (record { g = g; m = m })) (kv : length v ≡ length vals) (ku : length u ≡ length us) (ke : length e ≡ length eqs) where
         T : Told n s d most c w vals us eqs g m v u e
         T = done-tells n s d most c w vals us eqs g m v u e (ap given (sym x) ∙ q)
 
@@ -126,7 +124,7 @@ module _ (n r most c w : ℕ) (s d vals us eqs : List ℕ) where
         words : m * w ≤ 2 ^ n * w
         words = mul-le-mul_right w few
 
-        pub settling : Settling c w n s r m v u e
+        pub settling : Settling T₀ s m v u e
         settling =
             record {
               small = T.fit.small;
@@ -155,21 +153,21 @@ module _ (n r most c w : ℕ) (s d vals us eqs : List ℕ) where
         unfolding rules
         system-is = ap₂ (λ (x y : List Row). x ++ checks (row_values c w) r (rules n s) y) T.rows_e T.rows_u
 
-        reduced-is : settled c w n s r g m v u e ≡ reduced n r c w s d vals G
+        reduced-is : settled T₀ s (record { g = g; m = m }) v u e ≡ reduced n r c w s d vals G
         reduced-is =
             let z : solve c (rows w m e ++ checks (row_values c w) r (rules n s) (rows w (2 ^ n) u)) (rows w (2 ^ n) v) ≡ solve c E O.block = ap₂ (solve c) system-is T.block in
             let y = tail ∙ ap {B = List ℕ} (λ k. replicate ((2 ^ n + r - (k + r)) * w) 0) T.many in
-            λ i. leaves (Solved (T.unknown i) (T.many i + r) (z i).rank) (flatten (z i).rest) (T.all_u i) (flatten (z i).eqs ++ y i)
+            λ i. leaves (Ok (record { g = T.unknown i; m = T.many i + r; rank = (z i).rank })) (flatten (z i).rest) (T.all_u i) (flatten (z i).eqs ++ y i)
 
         fits : D ≡ true
         unfolding descending
         fits = go D refl (ap given (sym x) ∙ q)
           where
-            go : (b : Bool) → D ≡ b → given (down.Done g m) ≡ pick b (pick (ltb most G) (descended (down.Over G) vals us eqs) (written (length eqs) G w (found n s d c w vals))) (descended down.Misfit vals us eqs) → D ≡ true
+            go : (b : Bool) → D ≡ b → given (Ok (record { g = g; m = m })) ≡ pick b (pick (ltb most G) (descended (Err (Over G)) vals us eqs) (written (length eqs) G w (found n s d c w vals))) (descended (Err Misfit) vals us eqs) → D ≡ true
             go true f z = f
-            go false f z = let y = ap (λ (y : descent.Outcome). y.answer) z in let k : ◌≡◌ {A = ℕ} 0 1 = cc in absurd (omega arith)
+            go false f z = let y = ap (λ (y : descent.Outcome). y.answer) z in absurd (cc)
 
-        pub solved_as : (y : Outcome) → y ≡ settled c w n s r g m v u e → y ≡ after
+        pub solved_as : (y : Outcome) → y ≡ settled T₀ s (record { g = g; m = m }) v u e → y ≡ after
         solved_as y z =
             z ∙ reduced-is
             ∙ sym (at_room ∙ rw (fits, le-ltb most G (omega (arith, T.unknown, T.few))) refl)
@@ -187,28 +185,28 @@ module _ (n r most c w : ℕ) (s d vals us eqs : List ℕ) where
       (and_i _ _ (and_i _ _ (le-leb w widest nw) (and_i _ _ (lt-ltb c w hw) (le-leb most (64 * c) lo)))
       (and_i _ _ (eq-eqb (length vals) (2 ^ n * w) lv) (and_i _ _ (eq-eqb (length us) (2 ^ n * w) lu) (le-leb (2 ^ n * w) (length eqs) (omega arith))))))
 
-  module _ (fit : fitting n (length s) (length d) r most c w (length vals) (length us) (length eqs) ≡ true) (a : System) (v u e : List ℕ) (q : leaves a v u e ≡ after) where
+  module _ (fit : fitting n (length s) (length d) r most c w (length vals) (length us) (length eqs) ≡ true) (a : Result Solved Stop) (v u e : List ℕ) (q : leaves a v u e ≡ after) where
     -- the definition, where all fits
-    at_fit : leaves a v u e ≡ pick (ltb most G) (leaves (Over G) vals us eqs) (reduced n r c w s d vals G)
+    at_fit : leaves a v u e ≡ pick (ltb most G) (leaves (Err (Over G)) vals us eqs) (reduced n r c w s d vals G)
     unfolding solving
-    at_fit = q ∙ ap (λ (b : Bool). pick b (pick (ltb most G) (leaves (Over G) vals us eqs) (reduced n r c w s d vals G)) (leaves Misfit vals us eqs)) fit
+    at_fit = q ∙ ap (λ (b : Bool). pick b (pick (ltb most G) (leaves (Err (Over G)) vals us eqs) (reduced n r c w s d vals G)) (leaves (Err Misfit) vals us eqs)) fit
 
-    pub never_misfit : {A : Type 0} → a ≡ Misfit → A
-    never_misfit {A} x = go (ltb most G) (ap (λ (y : System). leaves y v u e) (sym x) ∙ at_fit)
+    pub never_misfit : {A : Type 0} → a ≡ Err Misfit → A
+    never_misfit {A} x = go (ltb most G) (ap (λ (y : Result Solved Stop). leaves y v u e) (sym x) ∙ at_fit)
       where
-        go : (b : Bool) → leaves Misfit v u e ≡ pick b (leaves (Over G) vals us eqs) (reduced n r c w s d vals G) → A
-        go true z = let y = ap (λ (y : Outcome). y.answer) z in let k : ◌≡◌ {A = ℕ} 0 1 = cc in absurd (omega arith)
-        go false z = let y = ap (λ (y : Outcome). y.answer) z in let k : ◌≡◌ {A = ℕ} 0 1 = cc in absurd (omega arith)
+        go : (b : Bool) → leaves (Err Misfit) v u e ≡ pick b (leaves (Err (Over G)) vals us eqs) (reduced n r c w s d vals G) → A
+        go true z = let y = ap (λ (y : Outcome). y.answer) z in absurd (cc)
+        go false z = let y = ap (λ (y : Outcome). y.answer) z in absurd (cc)
 
-    pub over-tells : (g : ℕ) → a ≡ Over g → (g ≡ G) × (most < G) × (leaves a v u e ≡ leaves a vals us eqs)
-    over-tells g x = go (ltb most G) refl (ap (λ (y : System). leaves y v u e) (sym x) ∙ at_fit)
+    pub over-tells : (g : ℕ) → a ≡ Err (Over g) → (g ≡ G) × (most < G) × (leaves a v u e ≡ leaves a vals us eqs)
+    over-tells g x = go (ltb most G) refl (ap (λ (y : Result Solved Stop). leaves y v u e) (sym x) ∙ at_fit)
       where
-        go : (b : Bool) → ltb most G ≡ b → leaves (Over g) v u e ≡ pick b (leaves (Over G) vals us eqs) (reduced n r c w s d vals G) → (g ≡ G) × (most < G) × (leaves a v u e ≡ leaves a vals us eqs)
+        go : (b : Bool) → ltb most G ≡ b → leaves (Err (Over g)) v u e ≡ pick b (leaves (Err (Over G)) vals us eqs) (reduced n r c w s d vals G) → (g ≡ G) × (most < G) × (leaves a v u e ≡ leaves a vals us eqs)
         go true f z =
             let y = ap (λ (y : Outcome). y.answer) z in
             let k : g ≡ G = cc in
             (k, ltb-true most G f, ap (λ (y : Outcome). leaves a y.vals y.us y.eqs) z)
-        go false f z = let y = ap (λ (y : Outcome). y.answer) z in let k : ◌≡◌ {A = ℕ} 0 1 = cc in absurd (omega arith)
+        go false f z = let y = ap (λ (y : Outcome). y.answer) z in absurd (cc)
 
   pub record Solution (g m rank : ℕ) (v u e : List ℕ) : Type 0 where
     pub symbols : length d ≡ 2 ^ n
@@ -225,17 +223,18 @@ module _ (n r most c w : ℕ) (s d vals us eqs : List ℕ) where
     abbrev Z : Sys
     Z = solve c E O.block
 
-    -- the lists that the definition gives for Solved
-    tells : D ≡ true → G ≤ most → leaves (Solved g m rank) v u e ≡ reduced n r c w s d vals G → Solution g m rank v u e
+    -- the lists that the definition gives for Ok
+    tells : D ≡ true → G ≤ most → leaves (Ok (record { g = g; m = m; rank = rank })) v u e ≡ reduced n r c w s d vals G → Solution g m rank v u e
     unfolding rules
     tells f h q =
         let (R, lo) = fitting-true n (length s) (length d) most c w (length vals) (length us) (length eqs) f in
         let some : 0 < w = omega (arith, R.constant) in
         let full : (j : ℕ) → j < length d → length (row w vals j) ≡ w = λ j p. let k = row_fit j (length d) w p in length_part vals (j * w) w (omega (arith, R.rows_v, ap (λ (i : ℕ). i * w) R.symbols)) in
         let a = ap (λ (y : Outcome). y.answer) q in
-        let eg : g ≡ G = cc in
-        let em : m ≡ length O.after.eqs + r = cc in
-        let er : rank ≡ Z.rank = cc in
+        let k : ◌≡◌ {A = Solved} (record { g = g; m = m; rank = rank }) (record { g = G; m = length O.after.eqs + r; rank = Z.rank }) = cc in
+        let eg : g ≡ G = ap (λ (x : Solved). x.g) k in
+        let em : m ≡ length O.after.eqs + r = ap (λ (x : Solved). x.m) k in
+        let er : rank ≡ Z.rank = ap (λ (x : Solved). x.rank) k in
         let (we, wr) = solve-wide c w E O.block (system-wide c w (rule_at s) n d (row w vals) full r) (rows-wide c w (rule_at s) n d (row w vals) full).0 in
         let se = after-length c E O.block in
         let sr = rest-length c E O.block in
@@ -261,15 +260,15 @@ module _ (n r most c w : ℕ) (s d vals us eqs : List ℕ) where
           system = λ i. sys (re i) (rr i) (er i);
         }
 
-    pub solved-tells : leaves (Solved g m rank) v u e ≡ after → Solution g m rank v u e
+    pub solved-tells : leaves (Ok (record { g = g; m = m; rank = rank })) v u e ≡ after → Solution g m rank v u e
     unfolding solving fitting
     solved-tells q = go (spaced r w (length vals) (length eqs)) D (ltb most G) refl refl q
       where
         go : (a f b : Bool) → D ≡ f → ltb most G ≡ b
-            → leaves (Solved g m rank) v u e ≡ pick (a && f) (pick b (leaves (Over G) vals us eqs) (reduced n r c w s d vals G)) (leaves Misfit vals us eqs) → Solution g m rank v u e
-        go false f b x y z = let k = ap (λ (y : Outcome). y.answer) z in let i : ◌≡◌ {A = ℕ} 0 1 = cc in absurd (omega arith)
-        go true false b x y z = let k = ap (λ (y : Outcome). y.answer) z in let i : ◌≡◌ {A = ℕ} 0 1 = cc in absurd (omega arith)
-        go true true true x y z = let k = ap (λ (y : Outcome). y.answer) z in let i : ◌≡◌ {A = ℕ} 0 1 = cc in absurd (omega arith)
+            → leaves (Ok (record { g = g; m = m; rank = rank })) v u e ≡ pick (a && f) (pick b (leaves (Err (Over G)) vals us eqs) (reduced n r c w s d vals G)) (leaves (Err Misfit) vals us eqs) → Solution g m rank v u e
+        go false f b x y z = let k = ap (λ (y : Outcome). y.answer) z in absurd (cc)
+        go true false b x y z = let k = ap (λ (y : Outcome). y.answer) z in absurd (cc)
+        go true true true x y z = let k = ap (λ (y : Outcome). y.answer) z in absurd (cc)
         go true true false x y z = tells x (ltb-false most G y) z
 
     pub rank_few : Solution g m rank v u e → ((j : ℕ) → j < length d → lead c (row w vals j) ≡ 0) → rank ≤ g
@@ -282,7 +281,7 @@ module _ (n r most c w : ℕ) (s d vals us eqs : List ℕ) where
 
 -- ---- one result
 
-pub solve_determined : (a b : System) (v u e v' u' e' : List ℕ) (meant : Outcome) → leaves a v u e ≡ meant → leaves b v' u' e' ≡ meant → (a ≡ b) × (v ≡ v') × (u ≡ u') × (e ≡ e')
+pub solve_determined : (a b : Result Solved Stop) (v u e v' u' e' : List ℕ) (meant : Outcome) → leaves a v u e ≡ meant → leaves b v' u' e' ≡ meant → (a ≡ b) × (v ≡ v') × (u ≡ u') × (e ≡ e')
 solve_determined a b v u e v' u' e' meant p q =
     let s : leaves a v u e ≡ leaves b v' u' e' = p ∙ sym q in
     (ap (λ (o : Outcome). o.answer) s, ap (λ (o : Outcome). o.vals) s, ap (λ (o : Outcome). o.us) s, ap (λ (o : Outcome). o.eqs) s)

@@ -1,12 +1,12 @@
--- What `solve` promises. A sheet of N = 2 ^ n records, a word of N symbols, the rows of its known symbols, and room for the rows of u and of the equations;
--- rows of w words, c of them coefficients (`model`'s RowValues).
+-- What `solve` promises. A sheet of N = 2 ^ n records, a word of N symbols, the rows of its known symbols, and room for the rows of
+-- u and of the equations; rows of w words, c of them coefficients (`model`'s RowValues).
 --     spaced, fitting     whether all that is handed over fits together
 --     Outcome, leaves     an answer, and what the three lists hold
 --     reduced             the answer and the lists where it does, of g unknowns
 --     solving             the answer and the lists after the call
 --     longest_check        the most rows that it adds to N for the equations
 --     Settling, settled   what the last step asks and does: the check's equations behind those of a descent, and all solved
-use Rattle.std.specs.Prelude.{◌≡◌, ℕ, ◌+◌, ◌-◌, ◌*◌, ◌^◌, ◌≤◌, ◌<◌, Bool, true, ◌&&◌, length, drop, replicate, eqb, leb, ltb}
+use Rattle.std.specs.Prelude.{◌≡◌, ℕ, ◌+◌, ◌-◌, ◌*◌, ◌^◌, ◌≤◌, ◌<◌, Bool, true, ◌&&◌, length, drop, replicate, eqb, leb, ltb, Result, Ok, Err}
 use mathlib.Core.List.{List, ◌++◌, flatten}
 use Rattle.bits.specs.Vectors.{pick}
 use Rattle.bits.specs.Rows.{Row, row, rows}
@@ -20,8 +20,11 @@ use Rattle.meaning.specs.Answers.{check_length}
 use Rattle.checks.specs.Checking.{check_of}
 use Rattle.descent.specs.Descending.{widest}
 use Rattle.descent.specs.Descending as descent
-use Rattle.system.specs.declared.System.{System}
-use Rattle.system.specs.declared.System.TheVariants.{Misfit, Over, Solved}
+use Rattle.descent.specs.declared.Stop.{Stop}
+use Rattle.descent.specs.declared.Stop.TheVariants.{Misfit, Over}
+use Rattle.descent.specs.declared.Found.{Found}
+use Rattle.system.specs.declared.Solved.{Solved}
+use Rattle.system.specs.declared.Terms.{Terms}
 
 -- ---- what fits together, by its lengths
 
@@ -39,12 +42,12 @@ fitting n sheet word r most c w vals us eqs = spaced r w vals eqs && descent.fit
 -- ---- the promise
 
 pub record Outcome : Type 0 where
-  pub answer : System
+  pub answer : Result Solved Stop
   pub vals : List ℕ
   pub us : List ℕ
   pub eqs : List ℕ
 
-abbrev pub leaves : System → List ℕ → List ℕ → List ℕ → Outcome
+abbrev pub leaves : Result Solved Stop → List ℕ → List ℕ → List ℕ → Outcome
 leaves a vals us eqs = record { answer = a; vals = vals; us = us; eqs = eqs }
 
 -- the symbols' rows reduced by the equations, the rows of u, and the equations reduced by each other, with zeros behind them
@@ -53,29 +56,30 @@ reduced n r c w sheet word vals g =
     let o : Out Row = rows_out c w (rule_at sheet) n word (row w vals) in
     let s : Sys = solve c (rows_system c w (rule_at sheet) n word (row w vals) r) o.block in
     let m = length o.after.eqs + r in
-    leaves (Solved g m s.rank) (flatten s.rest) (flatten o.after.us) (flatten s.eqs ++ replicate ((2 ^ n + r - m) * w) 0)
+    leaves (Ok (record { g = g; m = m; rank = s.rank })) (flatten s.rest) (flatten o.after.us) (flatten s.eqs ++ replicate ((2 ^ n + r - m) * w) 0)
 
 -- what does not fit, and too many unknowns, leave the lists as found
 unfoldable pub solving : ℕ → ℕ → ℕ → ℕ → ℕ → List ℕ → List ℕ → List ℕ → List ℕ → List ℕ → Outcome
 solving n r most c w sheet word vals us eqs =
     let g = unknowns n (rules n sheet) word in
     pick (fitting n (length sheet) (length word) r most c w (length vals) (length us) (length eqs))
-    (pick (ltb most g) (leaves (Over g) vals us eqs) (reduced n r c w sheet word vals g))
-    (leaves Misfit vals us eqs)
+    (pick (ltb most g) (leaves (Err (Over g)) vals us eqs) (reduced n r c w sheet word vals g))
+    (leaves (Err Misfit) vals us eqs)
 
 -- ---- the last step
 
-pub record Settling (c w n : ℕ) (sheet : List ℕ) (r m : ℕ) (vals us eqs : List ℕ) : Type 0 where
-  pub small : n ≤ largest_n
-  pub records : length sheet ≡ 2 ^ n * record_bytes
-  pub check : check_length r ≡ true
-  pub constant : c < w
-  pub narrow : w ≤ widest
-  pub rows_v : length vals ≡ 2 ^ n * w
-  pub rows_u : length us ≡ 2 ^ n * w
-  pub rows_e : (m + r) * w ≤ length eqs
+pub record Settling (t : Terms) (sheet : List ℕ) (m : ℕ) (vals us eqs : List ℕ) : Type 0 where
+  pub small : t.n ≤ largest_n
+  pub records : length sheet ≡ 2 ^ t.n * record_bytes
+  pub check : check_length t.r ≡ true
+  pub constant : t.coeffs < t.words
+  pub narrow : t.words ≤ widest
+  pub rows_v : length vals ≡ 2 ^ t.n * t.words
+  pub rows_u : length us ≡ 2 ^ t.n * t.words
+  pub rows_e : (m + t.r) * t.words ≤ length eqs
 
-abbrev pub settled : ℕ → ℕ → ℕ → List ℕ → ℕ → ℕ → ℕ → List ℕ → List ℕ → List ℕ → Outcome
-settled c w n sheet r g m vals us eqs =
-    let s : Sys = solve c (rows w m eqs ++ check_of n sheet r c w us) (rows w (2 ^ n) vals) in
-    leaves (Solved g (m + r) s.rank) (flatten s.rest) us (flatten s.eqs ++ drop ((m + r) * w) eqs)
+abbrev pub settled : Terms → List ℕ → Found → List ℕ → List ℕ → List ℕ → Outcome
+settled t sheet found vals us eqs =
+    let s : Sys = solve t.coeffs (rows t.words found.m eqs ++ check_of t.n sheet t.r t.coeffs t.words us) (rows t.words (2 ^ t.n) vals) in
+    let m = found.m + t.r in
+    leaves (Ok (record { g = found.g; m = m; rank = s.rank })) (flatten s.rest) us (flatten s.eqs ++ drop (m * t.words) eqs)

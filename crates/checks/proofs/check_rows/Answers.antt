@@ -1,8 +1,7 @@
 use mathlib.Core.Path.{sym, ap, ◌∙◌}
-use Prim.Native.Nat.{ℕ, ◌+◌, ◌-◌, ◌*◌}
+use Prim.Native.Nat.{ℕ, ◌+◌, ◌*◌}
 use native.Mathlib.Omega.{arith}
 use borrow.Author.Tests.{not-true, not-false}
-use borrow.Rule.Slice.PartMut.{same_len_mid}
 use lib.ListN.{length}
 use Rattle.sheet.proofs.Shapes.{positions-all}
 use Rattle.checks.proofs.Testing.{ready}
@@ -37,16 +36,6 @@ offset_bounds-eqs-from c =
     let R = ready A.n (length A.sheet.now) A.r A.c A.w (length A.us.now) A.m (length A.eqs.now) (sym c.fits.ensures ∙ not-false _ (ap not c.if-not-fits.false)) in
     omega (arith, R.room, part-size A.m A.r A.w)
 
-pub slice_bounds-write-count : goal.slice_bounds-write-count
-slice_bounds-write-count c =
-    let A = c.args in
-    omega (arith, part-size A.m A.r A.w)
-
-pub slice_bounds-write-start : goal.slice_bounds-write-start
-slice_bounds-write-start c =
-    let A = c.args in
-    omega (arith, part-size A.m A.r A.w)
-
 pub slice_bounds-write-end : goal.slice_bounds-write-end
 slice_bounds-write-end c =
     let A = c.args in
@@ -57,12 +46,7 @@ pub write-requires : goal.write-requires
 write-requires c =
     let A = c.args in
     let R = ready A.n (length A.sheet.now) A.r A.c A.w (length A.us.now) A.m (length A.eqs.now) (sym c.fits.ensures ∙ not-false _ (ap not c.if-not-fits.false)) in
-    (R.short, R.rows_u ∙ ap (λ (x : ℕ). x * A.w) (sym (c.size-size.ensures ∙ positions-all A.n R.small)), part_length A.m A.r A.w A.eqs.now R.room)
-
-pub shape_of-eqs : goal.shape_of-eqs
-shape_of-eqs c =
-    let A = c.args in
-    same_len_mid {X = ℕ} (A.m * A.w) ((A.m + A.r) * A.w - A.m * A.w) A.eqs.now c.write.new.out c.write.auto.out
+    (R.known, R.rows_u ∙ ap (λ (x : ℕ). x * A.w) (sym (c.size-size.ensures ∙ positions-all A.n R.small)), part_length A.m A.r A.w A.eqs.now R.room)
 
 pub returns : goal.returns
 returns c =

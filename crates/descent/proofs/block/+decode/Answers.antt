@@ -1,249 +1,85 @@
-use mathlib.Core.Path.{◌≡◌, refl, sym, ap, ◌∙◌}
-use Prim.Native.Nat.{ℕ, ◌*◌, ◌/◌, ◌^◌}
+use mathlib.Core.Path.{sym, ap, ◌∙◌}
 use native.Mathlib.Omega.{arith}
-use native.Mathlib.Nat.{add-mul}
-use mathlib.Core.List.{◌++◌}
-use lib.ListN.{length, take, drop, length-take}
-use lib.Seq.{length-take-le}
-use Rattle.meaning.specs.Limits.{mask_bytes, record_bytes}
-use Rattle.bits.proofs.Parts.{back, from-length}
-use Rattle.descent.proofs.Asks.{halves, leaf_ask, leaf_back, ask_left, ask_right, done}
+use lib.ListN.{length}
+use Prim.Native.Nat.{ℕ, ◌*◌, ◌/◌}
+use Rattle.descent.proofs.Halves.{halved}
+use Rattle.descent.proofs.Asks.{leaf_room, leaf_back, ask_left, ask_right, done}
 use Rattle.descent.proofs.block.+decode.Goals as goal
 
-pub bounds-marks-0 : goal.bounds-marks-0
-bounds-marks-0 t c =
-    let o : length c.args.marks.now ≡ 1 = c.requires.marks_len.0 ∙ ap (λ (x : ℕ). 2 ^ x) c.if-k-eq0.true in
-    omega arith
-
-pub position-requires : goal.position-requires
-position-requires t c =
+pub position-requires-clause-room : goal.position-requires-clause-room
+position-requires-clause-room t c =
     let A = c.args in
-    let told = leaf_ask A.c A.w A.k A.at A.t.next A.t.eqs A.sheet.now A.vals.now A.marks.now A.us.now A.eqs.now
-    c.if-k-eq0.true c.requires.marks_len c.requires.marks_bound (c.requires.eqs_bound, c.requires.w_in_bounds) in record { vals_len = told.0; at_bound = told.1.0; next_bound = told.1.1.0; w_in_bounds = told.1.1.1 }
-
-pub overflow_mul-half : goal.overflow_mul-half
-overflow_mul-half t c =
-    let A = c.args in
-    let m₀ = A.marks.now in
-    let v₀ = A.vals.now in
-    let w = A.w in
-    let h = length m₀ / 2 in
-    let (a, b, e) = halves A.k (length m₀) (length v₀) w c.if-k-eq0.false c.requires.marks_len.0 c.requires.marks_len.1 in
-    omega arith
+    leaf_room A.shape A.k A.course.now.t A.sheet.now A.vals.now A.course.now.us.now A.course.now.eqs.now A.marks.now c.if-k-eq0.true c.requires.size c.requires.here c.requires.room
 
 pub part-requires : goal.part-requires
 part-requires t c =
     let A = c.args in
-    let m₀ = A.marks.now in
-    let v₀ = A.vals.now in
-    let w = A.w in
-    let h = length m₀ / 2 in
-    let (a, b, e) = halves A.k (length m₀) (length v₀) w c.if-k-eq0.false c.requires.marks_len.0 c.requires.marks_len.1 in
-    (a, c.requires.marks_len.1 ∙ ap (λ (x : ℕ). x * w) a)
+    let S = c.split_at_mut-left in
+    let M = c.split_at_mut-left_marks in
+    let D = halved _ _ _ _ _ _ _ _ c.if-k-eq0.false c.requires.size c.requires.here.rows_v S.ensures.front S.ensures.back M.ensures.front M.ensures.back in
+    (record { alike = D.len_l ∙ sym D.len_r; marked = D.len_r ∙ ap (λ (x : ℕ). x * A.shape.words) (sym D.len_q) }, D.len_p ∙ sym D.len_q)
 
-pub slice_bounds-decode-end : goal.slice_bounds-decode-end
-slice_bounds-decode-end t c =
+pub decode-requires : goal.decode-requires
+decode-requires t c =
     let A = c.args in
-    let m₀ = A.marks.now in
-    let v₀ = A.vals.now in
-    let w = A.w in
-    let h = length m₀ / 2 in
-    let (a, b, e) = halves A.k (length m₀) (length v₀) w c.if-k-eq0.false c.requires.marks_len.0 c.requires.marks_len.1 in
-    omega (arith, c.part.auto.vals)
-
-pub slice_bounds-decode-end-else-k-eq0 : goal.slice_bounds-decode-end-else-k-eq0
-slice_bounds-decode-end-else-k-eq0 t c =
-    let A = c.args in
-    let m₀ = A.marks.now in
-    let v₀ = A.vals.now in
-    let w = A.w in
-    let h = length m₀ / 2 in
-    let (a, b, e) = halves A.k (length m₀) (length v₀) w c.if-k-eq0.false c.requires.marks_len.0 c.requires.marks_len.1 in
-    let k = c.part.auto.vals in
-    simp length-take (omega arith)
-
-pub slice_bounds-decode-end-else-k-eq0-2 : goal.slice_bounds-decode-end-else-k-eq0-2
-slice_bounds-decode-end-else-k-eq0-2 t c = omega (arith, c.part.auto.marks)
-
-pub slice_bounds-decode-end-else-k-eq0-3 : goal.slice_bounds-decode-end-else-k-eq0-3
-slice_bounds-decode-end-else-k-eq0-3 t c =
-    let k = c.part.auto.marks in
-    simp length-take (omega arith)
-
-pub overflow_sub-k : goal.overflow_sub-k
-overflow_sub-k t c = omega (arith, c.if-k-eq0.false)
-
-pub decode-left-requires : goal.decode-left-requires
-decode-left-requires t c =
-    let A = c.args in
-    let m₀ = A.marks.now in
-    let v₀ = A.vals.now in
-    let w = A.w in
-    let h = length m₀ / 2 in
-    let (a, b, e) = halves A.k (length m₀) (length v₀) w c.if-k-eq0.false c.requires.marks_len.0 c.requires.marks_len.1 in
-    let P = c.part in
-    let lv₁ = P.auto.vals ∙ e in
-    let lm₁ = P.auto.marks ∙ a in (
+    let S = c.split_at_mut-left in
+    let M = c.split_at_mut-left_marks in
+    let D = halved _ _ _ _ _ _ _ _ c.if-k-eq0.false c.requires.size c.requires.here.rows_v S.ensures.front S.ensures.back M.ensures.front M.ensures.back in
+    let P = c.part in (
       omega (arith, c.if-k-eq0.false),
-      ask_left A.c w A.k A.at A.t.next A.t.eqs h A.sheet.now v₀ m₀ A.us.now A.eqs.now c.if-k-eq0.false c.requires.marks_len c.requires.marks_bound (c.requires.eqs_bound, c.requires.w_in_bounds) b a
-          P.new.vals P.new.marks lv₁ lm₁ P.ensures,
+      ask_left A.shape A.k (length A.marks.now / 2) A.course.now.t A.sheet.now A.vals.now S.result.0.now S.result.1.now A.course.now.us.now A.course.now.eqs.now A.marks.now M.result.0.now M.result.1.now D c.requires.here c.requires.room
+          P.new.left P.new.right P.new.left_marks P.new.right_marks P.auto.left P.auto.left_marks P.ensures,
     )
 
 pub settle-requires : goal.settle-requires
 settle-requires t c =
     let A = c.args in
-    let m₀ = A.marks.now in
-    let v₀ = A.vals.now in
-    let w = A.w in
-    let h = length m₀ / 2 in
-    let (a, b, e) = halves A.k (length m₀) (length v₀) w c.if-k-eq0.false c.requires.marks_len.0 c.requires.marks_len.1 in
+    let S = c.split_at_mut-left in
+    let M = c.split_at_mut-left_marks in
+    let D = halved _ _ _ _ _ _ _ _ c.if-k-eq0.false c.requires.size c.requires.here.rows_v S.ensures.front S.ensures.back M.ensures.front M.ensures.back in
     let P = c.part in
-    let lv₁ = P.auto.vals ∙ e in
-    let lm₁ = P.auto.marks ∙ a in
-    (c.marks-else-k-eq0-1.given.1 ∙ lm₁, c.vals-else-k-eq0-2-1.given.1 ∙ lv₁ ∙ sym (add-mul h h w))
+    record {
+      alike = c.decode.auto.vals ∙ P.auto.left ∙ D.len_l ∙ sym (P.auto.right ∙ D.len_r);
+      marked = P.auto.right ∙ D.len_r ∙ ap (λ (x : ℕ). x * A.shape.words) (sym (P.auto.right_marks ∙ D.len_q));
+    }
 
-pub offset_bounds-vals-half : goal.offset_bounds-vals-half
-offset_bounds-vals-half t c =
+pub decode-requires-else-k-eq0 : goal.decode-requires-else-k-eq0
+decode-requires-else-k-eq0 t c =
     let A = c.args in
-    let m₀ = A.marks.now in
-    let v₀ = A.vals.now in
-    let w = A.w in
-    let h = length m₀ / 2 in
-    let (a, b, e) = halves A.k (length m₀) (length v₀) w c.if-k-eq0.false c.requires.marks_len.0 c.requires.marks_len.1 in
-    omega (arith, c.well_formed)
-
-pub slice_bounds-decode-count : goal.slice_bounds-decode-count
-slice_bounds-decode-count t c =
-    let A = c.args in
-    let m₀ = A.marks.now in
-    let v₀ = A.vals.now in
-    let w = A.w in
-    let h = length m₀ / 2 in
-    let (a, b, e) = halves A.k (length m₀) (length v₀) w c.if-k-eq0.false c.requires.marks_len.0 c.requires.marks_len.1 in
-    omega (arith, c.part.auto.vals, c.vals-else-k-eq0-2-1.given, c.settle.auto.vals)
-
-pub slice_bounds-decode-start : goal.slice_bounds-decode-start
-slice_bounds-decode-start t c =
-    let A = c.args in
-    let m₀ = A.marks.now in
-    let v₀ = A.vals.now in
-    let w = A.w in
-    let h = length m₀ / 2 in
-    let (a, b, e) = halves A.k (length m₀) (length v₀) w c.if-k-eq0.false c.requires.marks_len.0 c.requires.marks_len.1 in
-    omega (arith, c.part.auto.vals, c.vals-else-k-eq0-2-1.given, c.settle.auto.vals)
-
-pub slice_bounds-decode-count-else-k-eq0 : goal.slice_bounds-decode-count-else-k-eq0
-slice_bounds-decode-count-else-k-eq0 t c =
-    omega (arith, c.part.auto.marks, c.marks-else-k-eq0-1.given, c.settle.auto.marks)
-
-pub slice_bounds-decode-start-else-k-eq0 : goal.slice_bounds-decode-start-else-k-eq0
-slice_bounds-decode-start-else-k-eq0 t c =
-    omega (arith, c.part.auto.marks, c.marks-else-k-eq0-1.given, c.settle.auto.marks)
-
-pub overflow_sub-k-else-k-eq0 : goal.overflow_sub-k-else-k-eq0
-overflow_sub-k-else-k-eq0 t c = omega (arith, c.if-k-eq0.false)
-
-pub overflow_add-at : goal.overflow_add-at
-unfolding record_bytes mask_bytes
-overflow_add-at t c = omega (arith, c.requires.marks_bound)
-
-pub decode-right-requires : goal.decode-right-requires
-decode-right-requires t c =
-    let A = c.args in
-    let m₀ = A.marks.now in
-    let v₀ = A.vals.now in
-    let w = A.w in
-    let h = length m₀ / 2 in
-    let (a, b, e) = halves A.k (length m₀) (length v₀) w c.if-k-eq0.false c.requires.marks_len.0 c.requires.marks_len.1 in
+    let S = c.split_at_mut-left in
+    let M = c.split_at_mut-left_marks in
+    let D = halved _ _ _ _ _ _ _ _ c.if-k-eq0.false c.requires.size c.requires.here.rows_v S.ensures.front S.ensures.back M.ensures.front M.ensures.back in
     let P = c.part in
-    let lv₁ = P.auto.vals ∙ e in
-    let lm₁ = P.auto.marks ∙ a in
-    let D = c.decode-left in
-    let vL = D.new.vals in
-    let mL = D.new.marks in
-    let lvL : length vL ≡ h * w = D.auto.vals ∙ length-take-le (h * w) P.new.vals (omega arith) in
-    let lmL : length mL ≡ h = D.auto.marks ∙ length-take-le h P.new.marks (omega arith) in
-    let Q = c.settle in
-    let lm₃ = Q.auto.marks ∙ c.marks-else-k-eq0-1.given.1 ∙ lm₁ in
-    let lv₃ = Q.auto.vals ∙ c.vals-else-k-eq0-2-1.given.1 ∙ lv₁ in (
+    let L = c.decode in
+    let Q = c.settle in (
       omega (arith, c.if-k-eq0.false),
-      ask_right A.c w A.k A.at A.t.next A.t.eqs h A.sheet.now v₀ m₀ A.us.now A.eqs.now c.if-k-eq0.false c.requires.marks_len c.requires.marks_bound (c.requires.eqs_bound, c.requires.w_in_bounds) b a
-          P.new.vals P.new.marks lv₁ lm₁ P.ensures
-          vL mL (vL ++ drop (h * w) P.new.vals) (mL ++ drop h P.new.marks) Q.new.vals Q.new.marks D.new.us D.new.eqs D.result.next D.result.eqs
-          lvL lmL refl refl lv₃ lm₃ Q.ensures D.auto.us D.auto.eqs D.ensures,
+      ask_right A.shape A.k (length A.marks.now / 2) A.course.now.t A.sheet.now A.vals.now S.result.0.now S.result.1.now A.course.now.us.now A.course.now.eqs.now A.marks.now M.result.0.now M.result.1.now D c.requires.here c.requires.room
+          P.new.left P.new.right P.new.left_marks P.new.right_marks P.auto.left P.auto.left_marks P.ensures
+          P.auto.right_marks L.new.vals L.new.course.us.now L.new.course.eqs.now L.new.course.t L.ensures.kept.us L.ensures.kept.eqs L.ensures.kept.at L.ensures.out
+          Q.new.right Q.new.right_marks (Q.auto.right ∙ P.auto.right) (Q.auto.right_marks ∙ P.auto.right_marks) Q.ensures,
     )
 
-pub join-requires : goal.join-requires
-unfolding mask_bytes
-join-requires t c =
+pub returns-then-k-eq0-clause-out : goal.returns-then-k-eq0-clause-out
+returns-then-k-eq0-clause-out t c =
     let A = c.args in
-    let m₀ = A.marks.now in
-    let v₀ = A.vals.now in
-    let w = A.w in
-    let h = length m₀ / 2 in
-    let (a, b, e) = halves A.k (length m₀) (length v₀) w c.if-k-eq0.false c.requires.marks_len.0 c.requires.marks_len.1 in
-    let P = c.part in
-    let lv₁ = P.auto.vals ∙ e in
-    let lm₁ = P.auto.marks ∙ a in
-    c.vals-else-k-eq0-4-1.given.1 ∙ c.settle.auto.vals ∙ c.vals-else-k-eq0-2-1.given.1 ∙ lv₁ ∙ sym (add-mul h h w)
-
-pub shape_of-vals-then-k-eq0 : goal.shape_of-vals-then-k-eq0
-shape_of-vals-then-k-eq0 t c = c.position.auto.vals
-
-pub shape_of-us-then-k-eq0 : goal.shape_of-us-then-k-eq0
-shape_of-us-then-k-eq0 t c = c.position.auto.us
-
-pub shape_of-eqs-then-k-eq0 : goal.shape_of-eqs-then-k-eq0
-shape_of-eqs-then-k-eq0 t c = c.position.auto.eqs
-
-pub returns-then-k-eq0 : goal.returns-then-k-eq0
-returns-then-k-eq0 t c =
     let L = c.position in
+    leaf_back A.shape A.k A.course.now.t A.sheet.now A.vals.now A.course.now.us.now A.course.now.eqs.now A.marks.now c.if-k-eq0.true c.requires.size c.requires.here
+    L.new.vals L.new.course.us.now L.new.course.eqs.now L.new.course.t L.ensures.out
+
+pub returns-else-k-eq0-clause-out : goal.returns-else-k-eq0-clause-out
+returns-else-k-eq0-clause-out t c =
     let A = c.args in
-    leaf_back A.c A.w A.k A.at A.t.next A.t.eqs A.sheet.now A.vals.now A.marks.now A.us.now A.eqs.now c.if-k-eq0.true c.requires.marks_len
-    L.new.vals L.new.us L.new.eqs L.result.next L.result.eqs L.ensures
-
-pub shape_of-vals-else-k-eq0 : goal.shape_of-vals-else-k-eq0
-shape_of-vals-else-k-eq0 t c =
-    c.join.auto.vals ∙ c.vals-else-k-eq0-4-1.given.1 ∙ c.settle.auto.vals ∙ c.vals-else-k-eq0-2-1.given.1 ∙ c.part.auto.vals
-
-pub shape_of-marks : goal.shape_of-marks
-shape_of-marks t c =
-    c.marks-else-k-eq0-3-1.given.1 ∙ c.settle.auto.marks ∙ c.marks-else-k-eq0-1.given.1 ∙ c.part.auto.marks
-
-pub shape_of-us-else-k-eq0 : goal.shape_of-us-else-k-eq0
-shape_of-us-else-k-eq0 t c =
-    c.decode-right.auto.us ∙ c.decode-left.auto.us
-
-pub shape_of-eqs-else-k-eq0 : goal.shape_of-eqs-else-k-eq0
-shape_of-eqs-else-k-eq0 t c =
-    c.decode-right.auto.eqs ∙ c.decode-left.auto.eqs
-
-pub returns-else-k-eq0 : goal.returns-else-k-eq0
-returns-else-k-eq0 t c =
-    let J = c.join in
-    let R = c.decode-right in
-    let A = c.args in
-    let m₀ = A.marks.now in
-    let v₀ = A.vals.now in
-    let w = A.w in
-    let h = length m₀ / 2 in
-    let (a, b, e) = halves A.k (length m₀) (length v₀) w c.if-k-eq0.false c.requires.marks_len.0 c.requires.marks_len.1 in
+    let S = c.split_at_mut-left in
+    let M = c.split_at_mut-left_marks in
+    let D = halved _ _ _ _ _ _ _ _ c.if-k-eq0.false c.requires.size c.requires.here.rows_v S.ensures.front S.ensures.back M.ensures.front M.ensures.back in
     let P = c.part in
-    let lv₁ = P.auto.vals ∙ e in
-    let lm₁ = P.auto.marks ∙ a in
-    let D = c.decode-left in
-    let vL = D.new.vals in
-    let mL = D.new.marks in
-    let lvL : length vL ≡ h * w = D.auto.vals ∙ length-take-le (h * w) P.new.vals (omega arith) in
-    let lmL : length mL ≡ h = D.auto.marks ∙ length-take-le h P.new.marks (omega arith) in
+    let L = c.decode in
     let Q = c.settle in
-    let lm₃ = Q.auto.marks ∙ c.marks-else-k-eq0-1.given.1 ∙ lm₁ in
-    let lv₃ = Q.auto.vals ∙ c.vals-else-k-eq0-2-1.given.1 ∙ lv₁ in
-    let vR = R.new.vals in
-    done A.c w A.k A.at A.t.next A.t.eqs h A.sheet.now v₀ m₀ A.us.now A.eqs.now c.if-k-eq0.false c.requires.marks_len c.requires.marks_bound (c.requires.eqs_bound, c.requires.w_in_bounds) b a
-    P.new.vals P.new.marks lv₁ lm₁ P.ensures
-    vL mL (vL ++ drop (h * w) P.new.vals) (mL ++ drop h P.new.marks) Q.new.vals Q.new.marks D.new.us D.new.eqs D.result.next D.result.eqs
-    lvL lmL refl refl lv₃ lm₃ Q.ensures D.auto.us D.auto.eqs D.ensures
-    vR (take (h * w) Q.new.vals ++ vR) J.new.vals R.new.us R.new.eqs R.result.next R.result.eqs refl (R.auto.vals ∙ from-length Q.new.vals (h * w) lv₃)
-    (rw (back Q.new.vals vR (h * w)) at J.ensures) R.ensures
+    let N = c.decode-else-k-eq0 in
+    let lenL = L.auto.vals ∙ P.auto.left ∙ D.len_l in
+    let lenR = N.auto.vals ∙ Q.auto.right ∙ P.auto.right ∙ D.len_r in
+    done A.shape A.k (length A.marks.now / 2) A.course.now.t A.sheet.now A.vals.now S.result.0.now S.result.1.now A.course.now.us.now A.course.now.eqs.now A.marks.now M.result.0.now M.result.1.now D c.requires.here c.requires.room
+    P.new.left P.new.right P.new.left_marks P.new.right_marks P.auto.left P.auto.left_marks P.ensures
+    P.auto.right_marks L.new.vals L.new.course.us.now L.new.course.eqs.now L.new.course.t L.ensures.kept.us L.ensures.kept.eqs L.ensures.kept.at L.ensures.out
+    Q.new.right Q.new.right_marks (Q.auto.right ∙ P.auto.right) (Q.auto.right_marks ∙ P.auto.right_marks) Q.ensures
+    N.new.vals c.add.new.d N.new.course.us.now N.new.course.eqs.now N.new.course.t lenL lenR (c.add.auto.d ∙ lenL) c.add.ensures N.ensures.out

@@ -1,11 +1,5 @@
-use mathlib.Core.Path.{◌≡◌}
-use Prim.Native.Nat.{◌-◌, ◌≤◌}
-use lib.ListN.{length}
 use Rattle.descent.proofs.Slots.{SettleUpTo}
 use Rattle.descent.proofs.block.settle.Given as goal
 
 abbrev pub invariant-loop-j : goal.invariant-loop-j
-invariant-loop-j l = (l.j ≤ l.h) × (length l.vals ≡ length l.initial.vals) × (length l.marks ≡ length l.initial.marks) × SettleUpTo l.w l.h l.j l.initial.vals l.initial.marks l.vals l.marks
-
-abbrev pub decreases-loop-j : goal.decreases-loop-j
-decreases-loop-j l = l.h - l.j
+invariant-loop-j l = SettleUpTo l.w l.j l.left l.initial.right l.initial.right_marks l.right l.right_marks

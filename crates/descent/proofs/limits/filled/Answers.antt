@@ -1,18 +1,18 @@
-use mathlib.Core.Path.{sym}
+use Rattle.std.proofs.Common.{arith}
+use Rattle.std.proofs.lemmas.Grind.{common_steps}
 use Rattle.meaning.specs.Limits.{largest_n}
-use Rattle.descent.specs.Descending.{widest}
-use Rattle.descent.proofs.Fitting.{whole-fits, filled-vals, filled-us, filled-eqs}
+use Rattle.descent.specs.Descending.{widest, filled}
+use Rattle.descent.proofs.Fitting.{whole-fits}
 use Rattle.descent.proofs.limits.filled.Goals as goal
 
 pub overflow_mul-whole : goal.overflow_mul-whole
 unfolding largest_n widest
 overflow_mul-whole c = whole-fits _ _ _ c.requires.0 c.requires.2 c.requires.1
 
-pub returns-then-vals-whole : goal.returns-then-vals-whole
-returns-then-vals-whole c = sym (filled-vals _ _ _ _ _ _ c.requires.1 c.if-vals-whole.true)
-
 pub returns-then-us-whole : goal.returns-then-us-whole
-returns-then-us-whole c = sym (filled-us _ _ _ _ _ _ c.requires.1 c.if-vals-whole.false c.if-us-whole.true)
+unfolding filled
+returns-then-us-whole c = grind (arith, common_steps)
 
-pub returns : goal.returns
-returns c = sym (filled-eqs _ _ _ _ _ _ c.requires.1 c.if-vals-whole.false c.if-us-whole.false)
+pub returns-else-us-whole : goal.returns-else-us-whole
+unfolding filled
+returns-else-us-whole c = grind (arith, common_steps)

@@ -1,52 +1,62 @@
-use mathlib.Core.Path.{◌∙◌}
+use Rattle.std.proofs.Common.{rules}
+use mathlib.Core.Path.{ap, ◌∙◌}
+use Prim.Native.Nat.{ℕ, ◌*◌}
 use native.Mathlib.Omega.{arith}
-use lib.ListN.{length}
-use Rattle.meaning.specs.Limits.{largest_n}
-use Rattle.descent.specs.Descending.{widest}
-use Rattle.descent.proofs.Running.{whole-most, rows_ask, rows_back, many-most, filled_up}
+use mathlib.Core.List.{List}
+use lib.ListN.{length, replicate, length-drop}
+use Rattle.bits.proofs.Parts.{from}
+use Rattle.descent.proofs.Running.{whole-most, rows_here, rows_room, used, filled_up}
 use Rattle.descent.proofs.word.run_rows.Goals as goal
 
-pub decode-t-requires : goal.decode-t-requires
-decode-t-requires c =
+pub decode-requires-clause-here : goal.decode-requires-clause-here
+decode-requires-clause-here c =
     let A = c.args in
-    let told = rows_ask A.c A.w A.n A.sheet.now A.marks.now A.vals.now A.us.now A.eqs.now c.requires.ready c.requires.start_bound in record { marks_len = told.0; marks_bound = told.1.0; eqs_bound = told.1.1.0; w_in_bounds = told.1.1.1 }
+    rows_here A.shape A.n A.sheet.now A.vals.now A.us.now A.eqs.now A.marks.now c.requires.ready
 
-pub overflow_mul-used : goal.overflow_mul-used
-unfolding widest largest_n
-overflow_mul-used c =
+pub decode-requires-clause-room : goal.decode-requires-clause-room
+decode-requires-clause-room c =
     let A = c.args in
-    let D = c.decode-t in
+    rows_room A.shape A.n A.sheet.now A.vals.now A.us.now A.eqs.now A.marks.now c.requires.ready c.requires.start_bound
+
+pub overflow_mul-m : goal.overflow_mul-m
+overflow_mul-m c =
+    let A = c.args in
+    let D = c.decode in
     let R = c.requires.ready in
-    let h = rows_back A.c A.w A.n A.sheet.now A.marks.now A.vals.now A.us.now A.eqs.now D.new.vals D.new.us D.new.eqs D.result.next D.result.eqs D.ensures in
-    let k = many-most A.w A.n _ (whole-most A.c A.w A.n A.sheet.now A.marks.now A.vals.now A.us.now A.eqs.now) (length A.marks.now) R.symbols _ _ _ _ D.result.eqs h in
-    omega (arith, k, R.rows_e, c.well_formed)
+    let u = used A.shape.words A.n _ (whole-most A.shape A.n A.sheet.now A.vals.now A.us.now A.eqs.now A.marks.now) (length A.marks.now) R.symbols D.new.vals D.new.course.us.now D.new.course.eqs.now D.new.course.t D.ensures.kept.at D.ensures.out (length A.eqs.now) R.rows_e in
+    omega (arith, u, D.ensures.kept.eqs, c.well_formed)
 
-pub overflow_sub-eqs : goal.overflow_sub-eqs
-overflow_sub-eqs c =
+pub offset_bounds-eqs-m : goal.offset_bounds-eqs-m
+offset_bounds-eqs-m c =
     let A = c.args in
-    let D = c.decode-t in
+    let D = c.decode in
     let R = c.requires.ready in
-    let h = rows_back A.c A.w A.n A.sheet.now A.marks.now A.vals.now A.us.now A.eqs.now D.new.vals D.new.us D.new.eqs D.result.next D.result.eqs D.ensures in
-    let k = many-most A.w A.n _ (whole-most A.c A.w A.n A.sheet.now A.marks.now A.vals.now A.us.now A.eqs.now) (length A.marks.now) R.symbols _ _ _ _ D.result.eqs h in
-    omega (arith, k, R.rows_e, D.auto.eqs)
+    let u = used A.shape.words A.n _ (whole-most A.shape A.n A.sheet.now A.vals.now A.us.now A.eqs.now A.marks.now) (length A.marks.now) R.symbols D.new.vals D.new.course.us.now D.new.course.eqs.now D.new.course.t D.ensures.kept.at D.ensures.out (length A.eqs.now) R.rows_e in
+    omega (arith, u, D.ensures.kept.eqs, c.well_formed)
 
-pub shape_of-vals : goal.shape_of-vals
-shape_of-vals c = c.decode-t.auto.vals
+pub slice_bounds-fill-count : goal.slice_bounds-fill-count
+slice_bounds-fill-count c =
+    let A = c.args in
+    let D = c.decode in
+    let R = c.requires.ready in
+    let u = used A.shape.words A.n _ (whole-most A.shape A.n A.sheet.now A.vals.now A.us.now A.eqs.now A.marks.now) (length A.marks.now) R.symbols D.new.vals D.new.course.us.now D.new.course.eqs.now D.new.course.t D.ensures.kept.at D.ensures.out (length A.eqs.now) R.rows_e in
+    omega (arith, u, D.ensures.kept.eqs, c.well_formed)
 
-pub shape_of-marks : goal.shape_of-marks
-shape_of-marks c = c.decode-t.auto.marks
-
-pub shape_of-us : goal.shape_of-us
-shape_of-us c = c.decode-t.auto.us
-
-pub shape_of-eqs : goal.shape_of-eqs
-shape_of-eqs c = c.zero.auto.d ∙ c.decode-t.auto.eqs
+pub slice_bounds-fill-start : goal.slice_bounds-fill-start
+slice_bounds-fill-start c =
+    let A = c.args in
+    let D = c.decode in
+    let R = c.requires.ready in
+    let u = used A.shape.words A.n _ (whole-most A.shape A.n A.sheet.now A.vals.now A.us.now A.eqs.now A.marks.now) (length A.marks.now) R.symbols D.new.vals D.new.course.us.now D.new.course.eqs.now D.new.course.t D.ensures.kept.at D.ensures.out (length A.eqs.now) R.rows_e in
+    omega (arith, u, D.ensures.kept.eqs, c.well_formed)
 
 pub returns : goal.returns
 returns c =
     let A = c.args in
-    let D = c.decode-t in
-    let Z = c.zero in
+    let D = c.decode in
+    let F = c.fill in
     let R = c.requires.ready in
-    let h = rows_back A.c A.w A.n A.sheet.now A.marks.now A.vals.now A.us.now A.eqs.now D.new.vals D.new.us D.new.eqs D.result.next D.result.eqs D.ensures in
-    filled_up A.w A.n _ (whole-most A.c A.w A.n A.sheet.now A.marks.now A.vals.now A.us.now A.eqs.now) (length A.marks.now) R.symbols _ _ _ _ _ h _ _ (D.auto.vals ∙ R.rows_v) (D.auto.us ∙ R.rows_u) R.rows_e D.auto.eqs Z.ensures
+    let k = D.new.course.t.eqs * A.shape.words in
+    filled_up A.shape.words A.n _ (whole-most A.shape A.n A.sheet.now A.vals.now A.us.now A.eqs.now A.marks.now) (length A.marks.now) R.symbols D.new.vals D.new.course.us.now D.new.course.eqs.now D.new.course.t D.ensures.kept.at D.ensures.out
+    _ _ _ (length A.eqs.now) (D.auto.vals ∙ R.rows_v) (D.ensures.kept.us ∙ R.rows_u) D.ensures.kept.eqs (search rules) (search rules)
+    (F.ensures.after (λ y h. h) ∙ ap {B = List ℕ} (λ (n : ℕ). replicate n 0) (ap length (from _ k) ∙ length-drop k _ ∙ omega arith))
