@@ -1,20 +1,20 @@
 -- The reply, in the values that the code has by then.
 --     unsound                       a lane is inconsistent
---     unique_read, ambiguous_read   none is
-use mathlib.Core.Path.{◌≡◌, refl, sym, ap, ◌∙◌}
+--     sound-read                    none is
+use mathlib.Core.Path.{◌≡◌, refl, sym, ap, ap₂, ◌∙◌}
 use Prim.Native.Nat.{ℕ, ◌-◌, ◌*◌, ◌/◌, ◌≤◌, ◌<◌}
 use native.Mathlib.Omega.{arith}
-use mathlib.Core.Bool.{false}
 use mathlib.Core.List.{List, [], ◌∷◌, ◌++◌, map, flatten}
 use lib.ListN.{length, drop, length-append, length-map}
-use lib.Dec.{ltb}
-use borrow.Author.Tests.{lt-ltb, le-ltb, eq-eqb, ne_eqb}
+use borrow.Author.Tests.{lt-ltb, le-ltb}
 use Rattle.bits.specs.Rows.{Row, row, Wide, rows_of}
 use Rattle.bits.proofs.Tests.{length-tab}
 use Rattle.bits.proofs.RowLaws.{length-flatten}
 use Rattle.gf2.specs.Solve.{Sys, sys}
-use Rattle.meaning.specs.Answers.{leaving}
-use Rattle.meaning.specs.declared.Answer.TheVariants.{Unique, Ambiguous, LaneInconsistent}
+use Rattle.meaning.specs.Answers.{Reply, leaving}
+use Rattle.meaning.specs.declared.Answer.{Answer}
+use Rattle.verdict.specs.Whole.{by_dimension}
+use Rattle.meaning.specs.declared.Answer.TheVariants.{LaneInconsistent}
 use Rattle.lanes.specs.Lanes.{first_unsound, row_record, row_mark, row_repaired, row_reply}
 use Rattle.lanes.proofs.Spelling.{record_long}
 
@@ -36,20 +36,10 @@ module _ (c w : ℕ) (eqs vals : List ℕ) (g m rank : ℕ) (out : List ℕ) whe
   unfolding row_reply
   unsound t e h = rw (← e, lt-ltb t 512 h) refl
 
-  module _ (t : ℕ) (e : t ≡ first_unsound c (rows_of w eqs)) (h : 512 ≤ t) (out' : List ℕ) (z : out' ≡ row_repaired c (rows_of w vals) ++ drop (65 * (length vals / w)) out) where
-    long : length (rows_of w vals) ≡ length vals / w
-    long = length-tab (length vals / w) (row w vals)
-
-    whole : out' ≡ row_repaired c (rows_of w vals) ++ drop (length (row_repaired c (rows_of w vals))) out
-    whole = z ∙ ap (λ (k : ℕ). row_repaired c (rows_of w vals) ++ drop k out) (sym (repaired-long c (rows_of w vals) ∙ ap (λ (k : ℕ). 65 * k) long))
-
-    late : ltb (first_unsound c (rows_of w eqs)) 512 ≡ false
-    late = le-ltb (first_unsound c (rows_of w eqs)) 512 (omega (arith, e))
-
-    pub unique_read : g - rank ≡ 0 → leaving out' (Unique g m) ≡ row_reply c g m left out
-    unfolding row_reply
-    unique_read q = rw (late, eq-eqb (g - rank) 0 q) (ap (λ (l : List ℕ). leaving l (Unique g m)) whole)
-
-    pub ambiguous_read : (g - rank ≡ 0 → ⊥) → leaving out' (Ambiguous g m (g - rank)) ≡ row_reply c g m left out
-    unfolding row_reply
-    ambiguous_read q = rw (late, ne_eqb (g - rank) 0 q) (ap (λ (l : List ℕ). leaving l (Ambiguous g m (g - rank))) whole)
+  pub sound-read : 512 ≤ first_unsound c (rows_of w eqs) → (a : Answer) → a ≡ by_dimension g m (g - rank) → (out' : List ℕ) → out' ≡ row_repaired c (rows_of w vals) ++ drop (65 * (length vals / w)) out
+      → leaving out' a ≡ row_reply c g m left out
+  unfolding row_reply
+  sound-read h a is out' z =
+      let long : length (rows_of w vals) ≡ length vals / w = length-tab (length vals / w) (row w vals) in
+      rw (le-ltb (first_unsound c (rows_of w eqs)) 512 h)
+      (ap₂ {C = Reply} (λ l b. leaving l b) (z ∙ ap (λ (k : ℕ). row_repaired c (rows_of w vals) ++ drop k out) (sym (repaired-long c (rows_of w vals) ∙ ap (λ (k : ℕ). 65 * k) long))) is)

@@ -1,48 +1,20 @@
-// The repaired records and their marks, read off the reduced rows: rows of w words, c of them coefficients.
-ghost use Rattle.std.specs.Prelude.{◌≡◌, ◌+◌, ◌*◌, ◌/◌, ◌≤◌, ◌<◌, length, drop, replicate};
-ghost use mathlib.Core.List.{◌++◌, flatten};
-ghost use Rattle.bits.specs.Vectors.{bit, tab};
-ghost use Rattle.bits.specs.Rows.{row, rows_of};
-ghost use Rattle.gf2.specs.System.{led};
-ghost use Rattle.lanes.specs.Lanes.{row_byte, row_record, row_mark, row_repaired};
-ghost use Rattle.lanes.specs.Inner.{PutEight, record_rows, mark_rows};
+// The repaired records and their marks, read off the reduced rows.
+ghost use Rattle.std.specs.Prelude.{◌≡◌, ◌+◌, ◌*◌, ◌/◌, ◌≤◌, ◌++◌, length, drop};
+ghost use Rattle.bits.specs.Vectors.{tab};
+ghost use Rattle.bits.specs.Rows.{rows_of};
+ghost use Rattle.lanes.specs.Lanes.{row_byte, row_record, row_repaired};
+ghost use Rattle.lanes.specs.Inner.{record_rows};
 
-use crate::row;
-
-// The eight bytes of a word, the lowest first, from `at` on.
-fn put(out: &mut [u8], at: usize, x: u64)
-    requires { at + 8 ≤ length out.old }
-    ensures { PutEight at x out.old out.new }
-{
-    let mut rest = x;
-    let mut i = 0;
-    while i < 8 {
-        out[at + i] = (rest % 256) as u8;
-        rest = rest / 256;
-        i += 1;
-    }
-}
+use crate::{Rows, row};
 
 // The record whose bits are a row's constants.
 fn spell(x: &[u64], c: usize, out: &mut [u8])
     requires { (c + 9 ≤ length x.now) × (length out.old ≡ 64) }
     ensures { out.new ≡ tab 64 (row_byte c x.now) }
 {
-    let mut k = 0;
-    while k < 8 {
-        put(out, 8 * k, row::word(x, c, k));
-        k += 1;
-    }
-}
-
-// A record of zeros.
-fn blank(out: &mut [u8])
-    ensures { out.new ≡ replicate (length out.old) 0 }
-{
-    let mut i = 0;
-    while i < out.len() {
-        out[i] = 0;
-        i += 1;
+    // By index, since a proof knows nothing of what the parts that `chunks_exact_mut` lends come back as.
+    for k in 0..8 {
+        out[8 * k..8 * k + 8].copy_from_slice(&row::word(x, c, k).to_le_bytes());
     }
 }
 
@@ -52,53 +24,31 @@ fn record(x: &[u64], c: usize, out: &mut [u8])
     ensures { out.new ≡ row_record c x.now }
 {
     if gf2::led(x, c) {
-        blank(out);
+        out.fill(0);
     } else {
         spell(x, c, out);
     }
 }
 
 // Writes the records end to end.
-fn records(vals: &[u64], c: usize, w: usize, out: &mut [u8])
-    requires { (c + 9 ≤ w) × (length vals.now ≡ length vals.now / w * w) × (length vals.now / w * 64 ≤ length out.old) }
-    ensures { out.new ≡ record_rows c w vals.now (length vals.now / w) ++ drop (length vals.now / w * 64) out.old }
+fn records(vals: Rows, out: &mut [u8])
+    requires { length out.old ≡ length vals.words.now / vals.w * 64 }
+    ensures { let v = vals.entry in out.new ≡ record_rows v.c v.w v.words.now (length v.words.now / v.w) }
 {
-    let n = vals.len() / w;
-    let mut j = 0;
-    while j < n {
-        let at = j * w;
-        let to = j * 64;
-        record(&vals[at..at + w], c, &mut out[to..to + 64]);
-        j += 1;
+    // By index too.
+    for (j, x) in vals.iter().enumerate() {
+        record(x, vals.c, &mut out[j * 64..j * 64 + 64]);
     }
 }
 
-// 1 where a coefficient is left, else 0.
-fn mark(x: &[u64], c: usize) -> u8
-    ensures { result ≡ row_mark c x.now }
+// Writes the repaired records, then the marks, 1 where a coefficient is left, else 0; later bytes are as found.
+pub fn write(vals: Rows, out: &mut [u8])
+    requires { 65 * (length vals.words.now / vals.w) ≤ length out.old }
+    ensures { let v = vals.entry in out.new ≡ row_repaired v.c (rows_of v.w v.words.now) ++ drop (65 * (length v.words.now / v.w)) out.old }
 {
-    if gf2::led(x, c) { 1 } else { 0 }
-}
-
-// Writes the marks.
-fn marks(vals: &[u64], c: usize, w: usize, out: &mut [u8])
-    requires { (length vals.now ≡ length vals.now / w * w) × (length out.old ≡ length vals.now / w) }
-    ensures { out.new ≡ mark_rows c w vals.now (length out.old) }
-{
-    let mut j = 0;
-    while j < out.len() {
-        let at = j * w;
-        out[j] = mark(&vals[at..at + w], c);
-        j += 1;
-    }
-}
-
-// Writes the repaired records, then the marks; later bytes are as found.
-pub fn write(c: usize, w: usize, vals: &[u64], out: &mut [u8])
-    requires { (c + 9 ≤ w) × (length vals.now ≡ length vals.now / w * w) × (65 * (length vals.now / w) ≤ length out.old) }
-    ensures { out.new ≡ row_repaired c (rows_of w vals.now) ++ drop (65 * (length vals.now / w)) out.old }
-{
-    let n = vals.len() / w;
-    records(vals, c, w, out);
-    marks(vals, c, w, &mut out[n * 64..65 * n]);
+    let n = vals.len();
+    let c = vals.c;
+    let (front, rest) = out.split_at_mut(n * 64);
+    records(vals, front);
+    vals.write(&mut rest[..n], |x| u8::from(gf2::led(x, c)));
 }

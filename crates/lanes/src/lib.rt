@@ -3,66 +3,20 @@
 // any that ride along behind. Total: what does not fit together is refused.
 #![tactic(auto)]
 
-ghost use Rattle.std.specs.Prelude.{◌≡◌, ◌+◌, ◌*◌, ◌/◌, ◌≤◌, length};
-ghost use Rattle.bits.specs.Rows.{rows_of};
-ghost use Rattle.gf2.specs.Solve.{sys};
+ghost use Rattle.std.specs.Prelude.{◌≡◌};
 ghost use Rattle.meaning.specs.Answers.{reply};
-ghost use Rattle.lanes.specs.Lanes.{row_reply, fits, concluding};
+ghost use Rattle.meaning.specs.Results.{verdict_or_refusal};
+ghost use Rattle.lanes.specs.Lanes.{concluding};
 
 mod bad;
 mod fill;
 mod row;
 
-use meaning::Answer;
+use meaning::{Refused, Verdict};
+use verdict::by_rank;
 
-// Whether these widths, numbers, lengths and room fit together.
-fn fits(c: usize, w: usize, g: usize, rank: usize, eqs: usize, vals: usize, room: usize) -> bool
-    ensures { result ≡ fits c w g rank eqs vals room }
-{
-    if w < 9 {
-        return false;
-    }
-    if w - 9 < c {
-        return false;
-    }
-    if g < rank {
-        return false;
-    }
-    if eqs % w != 0 {
-        return false;
-    }
-    if vals % w != 0 {
-        return false;
-    }
-    vals / w <= room / 65
-}
-
-// `conclude`, where all fits together.
-fn read(
-    c: usize,
-    w: usize,
-    g: usize,
-    m: usize,
-    rank: usize,
-    eqs: &[u64],
-    vals: &[u64],
-    out: &mut [u8],
-) -> Answer
-    requires c_bound { (c + 9 ≤ w) × (length vals.now ≡ length vals.now / w * w) × (65 * (length vals.now / w) ≤ length out.old) }
-    requires rank_le_g { (rank ≤ g) × (length eqs.now ≡ length eqs.now / w * w) }
-    ensures { reply out.new result ≡ row_reply c g m (sys (rows_of w eqs.now) (rows_of w vals.now) rank) out.old }
-{
-    let lane = bad::first(eqs, c, w);
-    if lane < 512 {
-        return Answer::LaneInconsistent { lane, g, m };
-    }
-    fill::write(c, w, vals, out);
-    let d = g - rank;
-    if d == 0 {
-        return Answer::Unique { g, m };
-    }
-    Answer::Ambiguous { g, m, d }
-}
+// Rows with the common constant and the lanes' eight words behind their coefficients.
+type Rows<'a> = verdict::rows::Rows<'a, 9>;
 
 // Says what the solver's rows know, over g unknowns: `eqs` the equations, `rank` of them with a pivot, and `vals` the records;
 // rows of w words, the first c of them coefficients.
@@ -72,6 +26,7 @@ fn read(
 // then a mark for each, 1 where one is left; later bytes are as found.
 // Answers BadShape where fewer than nine words are behind the coefficients, the rank is above g, a slice is no whole number of
 // rows, or the output is shorter than 65 bytes a record. BadShape and LaneInconsistent leave the output as found.
+// Numbers one by one, as in the definition that its clause names: a struct for them would only be taken apart there.
 pub fn conclude(
     c: usize,
     w: usize,
@@ -81,11 +36,18 @@ pub fn conclude(
     eqs: &[u64],
     vals: &[u64],
     out: &mut [u8],
-) -> Answer
-    ensures { reply out.new result ≡ concluding c w g m rank eqs.now vals.now out.old }
+) -> Result<Verdict, Refused>
+    ensures { reply out.new (verdict_or_refusal result) ≡ concluding c w g m rank eqs.now vals.now out.old }
 {
-    if !fits(c, w, g, rank, eqs.len(), vals.len(), out.len()) {
-        return Answer::BadShape;
+    let eqs = Rows::new(eqs, c, w)?;
+    let vals = Rows::new(vals, c, w)?;
+    let verdict = by_rank(g, m, rank)?;
+    if out.len() / 65 < vals.len() {
+        return Err(Refused::BadShape);
     }
-    read(c, w, g, m, rank, eqs, vals, out)
+    if let Some(lane) = bad::first(eqs) {
+        return Ok(Verdict::LaneInconsistent { lane, g, m });
+    }
+    fill::write(vals, out);
+    Ok(verdict)
 }

@@ -2,15 +2,12 @@
 ghost use Rattle.std.specs.Prelude.{◌≡◌, ◌+◌, ◌≤◌, ◌<◌, length};
 ghost use Rattle.lanes.specs.Inner.{common_word, LaneWord};
 
-// A word of ones.
-const FULL: u64 = 18446744073709551615;
-
 // The constant that all lanes have in common, in each bit.
 fn common(x: &[u64], c: usize) -> u64
     requires { c < length x.now }
     ensures { result ≡ common_word c x.now }
 {
-    if x[c] % 2 == 1 { FULL } else { 0 }
+    if x[c] % 2 == 1 { u64::MAX } else { 0 }
 }
 
 // The constants of lanes 64 k to 64 k + 63, the first in bit 0.

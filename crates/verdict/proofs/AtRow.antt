@@ -1,25 +1,26 @@
 -- One row, as the code reads it.
---     sum-none, sum-next, sum-all      the sum of its coefficients, word by word
---     first-is, last-is, settled-.., agreeable-..     what the functions answer
+--     odd-is       whether it has an odd number of coefficients: by the sum of their words
+--     first-is     its constant
 use mathlib.Core.Path.{◌≡◌, refl, sym, ap, ap₂, ◌∙◌}
 use Prim.Native.Nat.{ℕ, zero, suc, ◌+◌, ◌*◌, ◌%◌, ◌/◌, ◌≤◌, ◌<◌}
 use native.Mathlib.Omega.{arith}
 use native.Mathlib.Numerals.{add-one}
-use mathlib.Core.Bool.{Bool, true, false, not}
+use mathlib.Core.Bool.{Bool, true}
 use mathlib.Core.List.{List, ◌++◌}
-use lib.ListN.{get_or, replicate, get_or-replicate, replicate-append-replicate}
+use Rattle.std.specs.List.{fold}
+use Rattle.std.proofs.lemmas.List.Sums.{fold_more}
+use lib.ListN.{get_or, length, take, replicate, get_or-replicate, replicate-append-replicate}
 use lib.Bits.{bit_xor, bit_and}
 use lib.Count.{ones}
 use lib.Dec.{eqb}
 use Rattle.bits.specs.Vectors.{◌⊕◌, bit}
 use Rattle.bits.specs.Words.{parity_of, odd_of, word_bits, full}
 use Rattle.bits.specs.Rows.{Row, has_at}
-use Rattle.bits.proofs.Words.{bit_cases, mod_two, xor_bit}
+use Rattle.bits.proofs.Words.{bit_cases, mod_two}
 use Rattle.bits.proofs.WordBits.{odd_xor, full-bits}
-use Rattle.gf2.specs.System.{led, dot, unpack, parity}
+use Rattle.gf2.specs.System.{dot, unpack, parity}
 use Rattle.gf2.proofs.Packed.{parity-is}
-use Rattle.verdict.specs.OffRows.{constant, row_settled, row_first, row_last}
-use Rattle.verdict.specs.Words.{agreeable}
+use Rattle.verdict.specs.OffRows.{row_first}
 
 -- ---- their sum
 
@@ -41,21 +42,23 @@ module _ (c : ℕ) (x : Row) where
       sym (parity-is c (replicate c full) x (λ k h. rw (get_or-replicate c k full 0 h) (omega arith)))
       ∙ ap (dot 0 x) (all_ones c c (omega arith))
 
-  pub sum-none : odd_of 0 full ≡ sum 0
+  summed : (k : ℕ) → k ≤ c → c ≤ length x → odd_of (fold (λ s y. bit_xor s y) 0 (take k x)) full ≡ sum k
   unfolding parity ones
-  sum-none = refl
-
-  pub sum-next : (s k : ℕ) → k < c → odd_of s full ≡ sum k → odd_of (bit_xor s (get_or x k 0)) full ≡ sum (k + 1)
-  unfolding parity
-  sum-next s k h e = rw (add-one k) (odd_xor s (get_or x k 0) full ∙ ap₂ ◌⊕◌ e (ap (odd_of (get_or x k 0)) (sym (get_or-replicate c k full 0 h))))
+  summed zero h l = refl
+  summed (suc k) h l =
+      let s : ℕ = fold (λ s y. bit_xor s y) 0 (take k x) in
+      ap (λ (n : ℕ). odd_of (fold (λ s y. bit_xor s y) 0 (take n x)) full) (sym (add-one k))
+      ∙ ap (λ (z : ℕ). odd_of z full) (fold_more (λ s y. bit_xor s y) 0 x k 0 (omega arith))
+      ∙ odd_xor s (get_or x k 0) full
+      ∙ ap₂ ◌⊕◌ (summed k (omega arith) l) (ap (odd_of (get_or x k 0)) (sym (get_or-replicate c k full 0 (omega arith))))
 
   bit_one : (p : ℕ) → p < 2 → p ≡ bit (eqb p 1)
   bit_one p h = bit_cases (λ q. q ≡ bit (eqb q 1)) refl refl p h
 
-  pub sum-all : (s k p : ℕ) → k ≤ c → c ≤ k → odd_of s full ≡ sum k → p ≡ parity_of s full → p ≡ bit (dot 0 x (replicate (64 * c) true))
-  sum-all s k p l h e q =
-      let m : k ≡ c = omega arith in
-      q ∙ bit_one (parity_of s full) (mod_two (ones (bit_and s full))) ∙ ap bit (e ∙ ap sum m ∙ sum_is)
+  pub odd-is : (s p : ℕ) → s ≡ fold (λ s y. bit_xor s y) 0 (take c x) → c ≤ length x → p ≡ parity_of s full → p ≡ bit (dot 0 x (replicate (64 * c) true))
+  odd-is s p e l q =
+      q ∙ bit_one (parity_of s full) (mod_two (ones (bit_and s full)))
+      ∙ ap bit (ap (λ (z : ℕ). odd_of z full) e ∙ summed c (omega arith) l ∙ sum_is)
 
   -- ---- what it says
 
@@ -66,22 +69,3 @@ module _ (c : ℕ) (x : Row) where
       let z : 64 * c % 64 ≡ 0 = omega arith in
       let e : get_or x c 0 / 1 ≡ get_or x c 0 = omega arith in
       rw (q, z, e) (bit_one (get_or x c 0 % 2) (mod_two (get_or x c 0)))
-
-  pub last-is : (p b : ℕ) → p ≡ bit (dot 0 x (replicate (64 * c) true)) → b ≡ row_first c x → bit_xor p b ≡ row_last c x
-  last-is p b ep eb = ap₂ bit_xor ep eb ∙ xor_bit (dot 0 x (replicate (64 * c) true)) (constant c x)
-
-  pub settled-led : led c x ≡ true → 2 ≡ row_settled c x
-  settled-led l = rw l refl
-
-  pub settled-bare : (b : ℕ) → led c x ≡ false → b ≡ row_first c x → b ≡ row_settled c x
-  settled-bare b l e = rw l e
-
-  pub agreeable-led : led c x ≡ true → true ≡ agreeable c x
-  agreeable-led l = rw l refl
-
-  pub agreeable-is : (b : ℕ) → led c x ≡ false → b ≡ row_first c x → eqb b 0 ≡ agreeable c x
-  agreeable-is b l e = rw (l, e) (go (constant c x))
-    where
-      go : (a : Bool) → eqb (bit a) 0 ≡ not a
-      go true = refl
-      go false = refl

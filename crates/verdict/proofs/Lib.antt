@@ -5,7 +5,6 @@
 --     Lanes      the verdict by any constant of a row, on symbols with rows of their own
 -- The code.
 --     AtRow, Cutting     one row, as the code reads it; the rows of a list, cut out one by one
---     Passing            what the loop over the equations keeps
 --     Assembling         the strips and the verdict
 --     Fitting            whether all fits together
 pub mod OneBit
@@ -14,6 +13,5 @@ pub mod Places
 pub mod Lanes
 pub mod AtRow
 pub mod Cutting
-pub mod Passing
 pub mod Assembling
 pub mod Fitting

@@ -2,72 +2,53 @@
 // constant in bit 0 of the next, and any that ride along behind. Total: what does not fit together is refused.
 #![tactic(auto)]
 
-ghost use Rattle.std.specs.Prelude.{◌≡◌, ◌*◌, ◌/◌, ◌≤◌, ◌<◌, ◌++◌, length, drop};
+ghost use Rattle.std.specs.Prelude.{◌≡◌, ℕ, ◌-◌, ◌*◌, ◌/◌, ◌≤◌, ◌<◌, ◌++◌, length, drop, MatchResult};
 ghost use Rattle.bits.specs.Rows.{rows_of};
-ghost use Rattle.gf2.specs.Solve.{sys};
+ghost use Rattle.gf2.specs.System.{consistent};
 ghost use Rattle.meaning.specs.Answers.{reply};
-ghost use Rattle.verdict.specs.OffRows.{row_strips, row_verdict};
-ghost use Rattle.verdict.specs.Concluding.{fits, concluding};
+ghost use Rattle.meaning.specs.Results.{verdict, verdict_or_refusal};
+ghost use Rattle.meaning.specs.declared.Refused.TheVariants.{BadShape};
+ghost use Rattle.verdict.specs.OffRows.{constant, row_strips};
+ghost use Rattle.verdict.specs.Concluding.{concluding};
+ghost use Rattle.verdict.specs.Whole.{by_dimension};
 
 mod row;
-mod strips;
+pub mod rows;
 
-use meaning::Answer;
+use meaning::{Refused, Verdict};
+use rows::Rows;
 
-// Whether these widths, numbers, lengths and room fit together.
-fn fits(c: usize, w: usize, g: usize, rank: usize, eqs: usize, vals: usize, room: usize) -> bool
-    ensures { result ≡ fits c w g rank eqs vals room }
+// The verdict on g unknowns, of which `rank` have a pivot, where the equations are sound: Unique where all have one, else
+// Ambiguous with dimension d = g - rank. BadShape where the rank is above g.
+pub fn by_rank(g: usize, m: usize, rank: usize) -> Result<Verdict, Refused>
+    ensures { MatchResult result (λ v. (rank ≤ g) × (verdict v ≡ by_dimension g m (g - rank))) (λ e. (e ≡ BadShape) × (g < rank)) }
 {
-    if w <= c {
-        return false;
+    match g.checked_sub(rank) {
+        None => Err(Refused::BadShape),
+        Some(0) => Ok(Verdict::Unique { g, m }),
+        Some(d) => Ok(Verdict::Ambiguous { g, m, d }),
     }
-    if g < rank {
-        return false;
-    }
-    if eqs % w != 0 {
-        return false;
-    }
-    if vals % w != 0 {
-        return false;
-    }
-    vals / w <= room / 3
+}
+
+// Whether no equation has lost its coefficients and kept the constant 1.
+fn sound(eqs: Rows<1>) -> bool
+    ensures { result ≡ consistent eqs.entry.c (constant eqs.entry.c) (rows_of eqs.entry.w eqs.entry.words.now) }
+{
+    eqs.iter().all(|x| row::agreeable(x, eqs.c))
 }
 
 // Writes the settled strip, the first and the last candidate; later bytes are as found.
-fn write(c: usize, w: usize, vals: &[u64], out: &mut [u8])
-    requires { (c < w) × (length vals.now ≡ length vals.now / w * w) × (3 * (length vals.now / w) ≤ length out.old) }
-    ensures { out.new ≡ row_strips c (rows_of w vals.now) ++ drop (3 * (length vals.now / w)) out.old }
+fn write(vals: Rows<1>, out: &mut [u8])
+    requires { 3 * (length vals.words.now / vals.w) ≤ length out.old }
+    ensures { let v = vals.entry in out.new ≡ row_strips v.c (rows_of v.w v.words.now) ++ drop (3 * (length v.words.now / v.w)) out.old }
 {
-    let size = vals.len() / w;
-    strips::settled(vals, c, w, &mut out[0..size]);
-    strips::first(vals, c, w, &mut out[size..2 * size]);
-    strips::last(vals, c, w, &mut out[2 * size..3 * size]);
-}
-
-// `conclude`, where all fits together.
-fn read(
-    c: usize,
-    w: usize,
-    g: usize,
-    m: usize,
-    rank: usize,
-    eqs: &[u64],
-    vals: &[u64],
-    out: &mut [u8],
-) -> Answer
-    requires c_lt_w { (c < w) × (length vals.now ≡ length vals.now / w * w) × (3 * (length vals.now / w) ≤ length out.old) }
-    requires rank_le_g { (rank ≤ g) × (length eqs.now ≡ length eqs.now / w * w) }
-    ensures { reply out.new result ≡ row_verdict c g m (sys (rows_of w eqs.now) (rows_of w vals.now) rank) out.old }
-{
-    if !strips::sound(eqs, c, w) {
-        return Answer::Inconsistent { g, m };
-    }
-    write(c, w, vals, out);
-    let d = g - rank;
-    if d == 0 {
-        return Answer::Unique { g, m };
-    }
-    Answer::Ambiguous { g, m, d }
+    let n = vals.len();
+    let c = vals.c;
+    let (settled, rest) = out.split_at_mut(n);
+    let (first, rest) = rest.split_at_mut(n);
+    vals.write(settled, |x| row::settled(x, c));
+    vals.write(first, |x| row::first(x, c));
+    vals.write(&mut rest[..n], |x| row::last(x, c));
 }
 
 // Says what the solver's rows know, over g unknowns: `eqs` the equations, `rank` of them with a pivot, and `vals` the symbols;
@@ -78,6 +59,7 @@ fn read(
 // where all are 1; later bytes are as found.
 // Answers BadShape where no word is behind the coefficients, the rank is above g, a slice is no whole number of rows, or the
 // output is shorter than 3 bytes a symbol. BadShape and Inconsistent leave the output as found.
+// Numbers one by one, as in the definition that its clause names: a struct for them would only be taken apart there.
 pub fn conclude(
     c: usize,
     w: usize,
@@ -87,11 +69,18 @@ pub fn conclude(
     eqs: &[u64],
     vals: &[u64],
     out: &mut [u8],
-) -> Answer
-    ensures { reply out.new result ≡ concluding c w g m rank eqs.now vals.now out.old }
+) -> Result<Verdict, Refused>
+    ensures { reply out.new (verdict_or_refusal result) ≡ concluding c w g m rank eqs.now vals.now out.old }
 {
-    if !fits(c, w, g, rank, eqs.len(), vals.len(), out.len()) {
-        return Answer::BadShape;
+    let eqs = Rows::new(eqs, c, w)?;
+    let vals = Rows::new(vals, c, w)?;
+    let verdict = by_rank(g, m, rank)?;
+    if out.len() / 3 < vals.len() {
+        return Err(Refused::BadShape);
     }
-    read(c, w, g, m, rank, eqs, vals, out)
+    if !sound(eqs) {
+        return Ok(Verdict::Inconsistent { g, m });
+    }
+    write(vals, out);
+    Ok(verdict)
 }

@@ -5,21 +5,12 @@ ghost use Rattle.gf2.specs.System.{dot};
 ghost use Rattle.verdict.specs.OffRows.{row_settled, row_first, row_last};
 ghost use Rattle.verdict.specs.Words.{agreeable};
 
-// A word of ones.
-const FULL: u64 = 18446744073709551615;
-
 // 1 if the row has an odd number of coefficients, else 0.
 fn odd(x: &[u64], c: usize) -> u8
     requires { c ≤ length x.now }
     ensures { result ≡ bit (dot 0 x.now (replicate (64 * c) true)) }
 {
-    let mut sum = 0;
-    let mut k = 0;
-    while k < c {
-        sum = sum ^ x[k];
-        k += 1;
-    }
-    bits::parity(sum, FULL)
+    bits::parity(x[..c].iter().fold(0, |sum, k| sum ^ *k), u64::MAX)
 }
 
 // The row's value where all unknowns are 0: its constant.
@@ -43,10 +34,7 @@ pub fn settled(x: &[u64], c: usize) -> u8
     requires { c < length x.now }
     ensures { result ≡ row_settled c x.now }
 {
-    if gf2::led(x, c) {
-        return 2;
-    }
-    first(x, c)
+    if gf2::led(x, c) { 2 } else { first(x, c) }
 }
 
 // Whether the row has a coefficient or the constant 0.
@@ -54,8 +42,5 @@ pub fn agreeable(x: &[u64], c: usize) -> bool
     requires { c < length x.now }
     ensures { result ≡ agreeable c x.now }
 {
-    if gf2::led(x, c) {
-        return true;
-    }
-    first(x, c) == 0
+    gf2::led(x, c) || first(x, c) == 0
 }

@@ -1,10 +1,11 @@
-use borrow.Author.Rules.{rules}
+use Rattle.std.proofs.Common.{rules}
 use Rattle.verdict.proofs.Assembling.{written}
 use Rattle.verdict.proofs.write.Goals as goal
 
 pub returns : goal.returns
 returns c =
-    let A = c.args in
-    written A.c A.w A.vals.now A.out.now c.settled.new.out c.first.new.out c.last.new.out _ _ _
+    let V = c.args.vals in
+    rw c.len-n.ensures
+    (written V.c V.w V.words.now c.args.out.now c.split_at_mut-first.result.1.now c.write.new.out c.write-2.new.out c.write-3.new.out (search rules)
     (search rules) (search rules) (search rules)
-    c.settled.ensures c.first.ensures c.last.ensures
+    (λ j h. search rules) (λ j h. search rules) (λ j h. search rules))

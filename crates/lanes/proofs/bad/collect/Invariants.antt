@@ -1,11 +1,7 @@
-use mathlib.Core.Path.{◌≡◌}
-use Prim.Native.Nat.{◌-◌}
-use lib.ListN.{length}
-use Rattle.lanes.proofs.Collecting.{CollectedUpTo}
+use Rattle.std.proofs.Common.{◌≡◌, map}
+use Rattle.std.specs.Slice.Iter.{chunks_exact_size}
+use Rattle.lanes.specs.Inner.{Collected}
 use Rattle.lanes.proofs.bad.collect.Given as goal
 
-abbrev pub invariant-loop-i : goal.invariant-loop-i
-invariant-loop-i l = CollectedUpTo l.c l.w l.eqs l.bad l.m l.i × (length l.bad ≡ length l.initial.bad)
-
-abbrev pub decreases-loop-i : goal.decreases-loop-i
-decreases-loop-i l = l.m - l.i
+abbrev pub invariant-loop-x : goal.invariant-loop-x
+invariant-loop-x l = (chunks_exact_size l.x-iterator ≡ l.eqs.w) × Collected l.eqs.c (map (λ y. y.now) l.yielded) l.bad

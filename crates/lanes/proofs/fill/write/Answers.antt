@@ -1,9 +1,10 @@
-use lib.ListN.{length-take, length-drop}
+use Rattle.std.proofs.Common.{rules}
 use Rattle.lanes.proofs.Spelling.{repaired-is}
-use native.Mathlib.Omega.{arith}
 use Rattle.lanes.proofs.fill.write.Goals as goal
 
 pub returns : goal.returns
 returns c =
-    let A = c.args in
-    repaired-is A.c A.w A.vals.now A.out.now _ _ _ c.records.ensures c.marks.ensures (simp (length-take, length-drop) (omega (arith, c.records.auto.out, c.requires.2)))
+    let V = c.args.vals in
+    rw (c.len-n.ensures, c.records.ensures)
+    (repaired-is V.c V.w V.words.now c.args.out.now c.split_at_mut-front.result.1.now c.write.new.out (search rules)
+    (search rules) (λ j h. search rules))
