@@ -1,23 +1,23 @@
 -- A word's symbols put into rows, and what is read off them.
---     part-zeros, front_zeros                zeros are zeros in every part
---     put-zero, put_one                      one symbol
---     place-start, place-next, place_end     the loop: the rows that are placed
---     zero-start, zero-next                  and those that are not yet
+--     put_constant                           one symbol
+--     place-next                             the loop: the rows that are placed
+--     zero-next                              and those that are not yet
 --     placed-bare, placed-candidates         the rows have no coefficient, and the word that their constants make has the word's candidates
 use mathlib.Core.Path.{◌≡◌, refl, sym, ap, ap₂, ◌∙◌}
 use mathlib.Core.Logic.{◌⊎◌, inl, inr}
-use Prim.Native.Nat.{ℕ, zero, suc, ◌+◌, ◌*◌, ◌-◌, ◌≤◌, ◌<◌}
+use Prim.Native.Nat.{ℕ, zero, suc, ◌+◌, ◌*◌, ◌≤◌, ◌<◌}
 use native.Mathlib.Omega.{arith}
 use native.Mathlib.Nat.{eq-or-lt_of_le}
 use mathlib.Core.Bool.{Bool, true, false, ◌&&◌}
 use mathlib.Core.List.{List, [], ◌∷◌, ◌++◌, append_assoc}
-use lib.ListN.{length, take, drop, set, get_or, replicate, length-replicate, length-set, replicate-append-replicate, take-append-drop}
-use lib.Seq.{paste, take-take, drop-drop, take_at, drop_at}
+use lib.ListN.{length, take, drop, set, get_or, replicate, length-replicate, length-set, take-append-drop}
+use lib.Seq.{paste, take-take, drop-drop}
 use lib.Dec.{eqb}
-use borrow.Author.Tests.{eq-eqb, ne_eqb}
+use mir.Val.{bool_byte}
+use Rattle.std.proofs.lemmas.List.{get_or-replicate, set-get_or}
 use Rattle.bits.specs.Vectors.{bit, filter, pick}
 use Rattle.bits.specs.Rows.{Row, part, row, nought_row}
-use Rattle.bits.proofs.RowLaws.{row_fit, row_room}
+use Rattle.bits.proofs.RowLaws.{row_room}
 use Rattle.bits.proofs.RowsWritten.{paste-set, row_same, row_other}
 use Rattle.gf2.specs.Solve.{lead}
 use Rattle.meaning.specs.Sheet.{Rule}
@@ -27,20 +27,6 @@ use Rattle.verdict.specs.OffRows.{constant}
 use Rattle.verdict.proofs.OneBit.{has-nought, lead-within}
 use Rattle.verdict.proofs.Lanes.{lane_sym, lane_word, constant-unit, unit-bare}
 use Rattle.decoder.specs.Placing.{symbol_row, PutSymbol, Placed, Unplaced}
-
--- ---- zeros
-
-pub part-zeros : (a w n : ℕ) → a + w ≤ n → part w a (nought_row n) ≡ nought_row w
-part-zeros a w n h =
-    let m = n - (a + w) in
-    let e : a + (w + m) ≡ n = omega arith in
-    let r : nought_row a ++ (nought_row w ++ nought_row m) ≡ nought_row n =
-    ap (λ (l : List ℕ). nought_row a ++ l) (replicate-append-replicate w m 0) ∙ replicate-append-replicate a (w + m) 0 ∙ ap nought_row e in
-    ap (part w a) (sym r) ∙ ap (take w) (drop_at (nought_row a) (nought_row w ++ nought_row m) a (length-replicate a 0)) ∙ take_at (nought_row w) (nought_row m) w (length-replicate w 0)
-
--- the first k of n zeros
-pub front_zeros : (k : ℕ) (l : List ℕ) → k ≤ length l → l ≡ replicate (length l) 0 → take (k - 0) l ≡ replicate k 0
-front_zeros k l h e = let z : k - 0 ≡ k = omega arith in rw z (ap (take k) e ∙ part-zeros 0 k (length l) (omega arith))
 
 -- ---- one symbol
 
@@ -58,25 +44,22 @@ module _ (c w j s n : ℕ) (v : List ℕ) (lv : length v ≡ n * w) (hj : j < n)
   clear : v ≡ paste v (j * w) (nought_row w) w
   clear = sym (ap (λ (x : Row). paste v (j * w) x w) (sym e) ∙ paste_own v (j * w) w)
 
-  pub put-zero : (s ≡ 1 → ⊥) → PutSymbol c w j s v v
-  put-zero q = record { new = e ∙ sym (rw (ne_eqb s 1 q) refl); old = λ i d. refl }
-
-  pub put_one : c < w → s ≡ 1 → PutSymbol c w j s v (set v (j * w + c) 1)
-  put_one cw q =
-      let lx : length (unit_row c w) ≡ w = length-set (replicate w 0) c 1 ∙ length-replicate w 0 in
-      let ev : set v (j * w + c) 1 ≡ paste v (j * w) (unit_row c w) w = ap (λ (l : List ℕ). set l (j * w + c) 1) clear ∙ paste-set v (nought_row w) (j * w) w room (length-replicate w 0) c 1 cw in
-      record { new = row_same w n v lv j (unit_row c w) _ hj lx ev ∙ sym (rw (eq-eqb s 1 q) refl); old = row_other w n v lv j (unit_row c w) _ hj lx ev }
+  -- its constant is put in word c
+  pub put_constant : c < w → (x : ℕ) → x ≡ bool_byte (eqb s 1) → PutSymbol c w j s v (set v (j * w + c) x)
+  put_constant cw x q =
+      let lx : length (set (nought_row w) c x) ≡ w = length-set (replicate w 0) c x ∙ length-replicate w 0 in
+      let ev : set v (j * w + c) x ≡ paste v (j * w) (set (nought_row w) c x) w =
+      ap (λ (l : List ℕ). set l (j * w + c) x) clear ∙ paste-set v (nought_row w) (j * w) w room (length-replicate w 0) c x cw in
+      record { new = row_same w n v lv j (set (nought_row w) c x) _ hj lx ev ∙ go (eqb s 1) x q; old = row_other w n v lv j (set (nought_row w) c x) _ hj lx ev }
+    where
+      go : (b : Bool) (y : ℕ) → y ≡ bool_byte b → set (nought_row w) c y ≡ pick b (unit_row c w) (nought_row w)
+      go true y k = ap (set (nought_row w) c) k
+      go false y k = ap (set (nought_row w) c) (k ∙ sym (get_or-replicate w c 0 0 cw)) ∙ set-get_or (nought_row w) c 0
 
 -- ---- the loop
 
 pub zero-next : {c w j s n : ℕ} {v v' : List ℕ} → Unplaced w j n v → PutSymbol c w j s v v' → Unplaced w (j + 1) n v'
 zero-next u o = record { zeros = λ i p q. o.old i (λ z. omega arith) ∙ u.zeros i (omega arith) q }
-
-pub place-start : (c w : ℕ) (word v : List ℕ) → Placed c w 0 word v
-place-start c w word v = record { symbols = λ i p. absurd (omega arith) }
-
-pub zero-start : (w n : ℕ) (v : List ℕ) → v ≡ replicate (n * w) 0 → Unplaced w 0 n v
-zero-start w n v e = record { zeros = λ i p q. ap (λ (l : List ℕ). row w l i) e ∙ part-zeros (i * w) w (n * w) (row_fit i n w q) }
 
 other_default : (l : List ℕ) (j : ℕ) → j < length l → get_or l j 0 ≡ get_or l j 2
 other_default [] j p = absurd (omega arith)
@@ -89,9 +72,6 @@ place-next {c} {w} {j} {word} {v} {v'} h u o = record { symbols = λ i p. let q 
     go : (i : ℕ) → (i ≡ j) ⊎ (i < j) → row w v' i ≡ symbol_row c w (get_or word i 2)
     go i (inl q) = rw q (o.new ∙ ap (symbol_row c w) (other_default word j h))
     go i (inr p) = o.old i (λ z. omega arith) ∙ u.symbols i p
-
-pub place_end : {c w j k : ℕ} {word v : List ℕ} → k ≤ j → Placed c w j word v → Placed c w k word v
-place_end p u = record { symbols = λ i q. u.symbols i (omega arith) }
 
 -- ---- what is read off the rows
 

@@ -8,7 +8,7 @@
 --     counts_bound                          under the ceiling, m and the number of erased symbols are N - K + r + g
 --     ceiling_raised, ceiling_lowered       another ceiling changes no answer but to or from 18
 --     ceiling_enough                        18 names the least ceiling that suffices
---     decode_determined                     any two results that the promise allows are equal
+--     decode_determined, same_result        any two results that the promise allows are equal, as answers and as they are
 use mathlib.Core.Path.{◌≡◌, sym, ap, ◌∙◌, subst}
 use mathlib.Core.Logic.{◌⊎◌, inl, inr, ⊎_elim, ◌↔◌}
 use Prim.Native.Nat.{ℕ, ◌+◌, ◌^◌, ◌≤◌, ◌<◌}
@@ -22,9 +22,14 @@ use Rattle.meaning.specs.Codewords.{erased, candidates}
 use Rattle.meaning.specs.Open.{unknowns, equations}
 use Rattle.meaning.specs.Strips.{strips}
 use Rattle.meaning.specs.Answers.{Reply, numbers_of, refuses, form_refusals, reply, decoding}
+use Rattle.std.specs.Prelude.{Result}
+use Rattle.meaning.specs.Results.{verdict_or_refusal}
+use Rattle.meaning.specs.declared.Verdict.{Verdict}
+use Rattle.meaning.specs.declared.Refused.{Refused}
 use Rattle.meaning.specs.declared.Answer.{Answer}
 use Rattle.meaning.specs.declared.Answer.TheVariants.{TooMany}
 use Rattle.meaning.proofs.Determined.{reply_determined}
+use Rattle.meaning.proofs.Results.{verdict_or_refusal_same}
 use Rattle.meaning.proofs.Demands.{code, over_iff, unique_iff, inconsistent_iff, ambiguous_iff, strips_shown, SameFate, demand_3}
 use Rattle.planning.specs.Filled.{filled_in}
 use Rattle.planning.specs.MoreKnown.{code_of, g_of, m_of, formed, MoreKnown}
@@ -60,6 +65,12 @@ module _ (n : ℕ) (s : List ℕ) (r c : ℕ) (w out x : List ℕ) (a : Answer) 
 
       pub written-strips : 0 < length cs → x ≡ strips n cs ++ drop (length (strips n cs)) out
       written-strips l = subst (λ (t : Reply). t.bytes ≡ strips n cs ++ drop (length (strips n cs)) out) (sym p) (strips_shown n s r c w out ok h l)
+
+pub same_result : (n : ℕ) (s : List ℕ) (r c : ℕ) (w out x x' : List ℕ) (a a' : Result Verdict Refused)
+    → reply x (verdict_or_refusal a) ≡ decoding n s r c w out → reply x' (verdict_or_refusal a') ≡ decoding n s r c w out → (a ≡ a') × (x ≡ x')
+same_result n s r c w out x x' a a' p q =
+    let (e, f) = decode_determined n s r c w out x (verdict_or_refusal a) p x' (verdict_or_refusal a') q in
+    (verdict_or_refusal_same a a' e, f)
 
 pub same_fate : (n : ℕ) (s : List ℕ) (r c : ℕ) (w w' out out' x x' : List ℕ) (a a' : Answer) → map erased w ≡ map erased w'
     → reply x a ≡ decoding n s r c w out → reply x' a' ≡ decoding n s r c w' out' → refuses (form_refusals n s r c w (length out)) ≡ false → refuses (form_refusals n s r c w' (length out')) ≡ false

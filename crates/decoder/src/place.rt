@@ -1,26 +1,18 @@
 // Rows made of the symbols of a word, in room that holds zeros.
-ghost use Rattle.std.specs.Prelude.{◌≡◌, ◌*◌, ◌<◌, length, get_or, replicate};
-ghost use Rattle.bits.specs.Rows.{row, nought_row};
-ghost use Rattle.decoder.specs.Placing.{PutSymbol, Placed};
+ghost use Rattle.std.specs.Prelude.{◌≡◌, length, replicate};
+ghost use Rattle.decoder.specs.Answering.{symbol_words};
+ghost use Rattle.decoder.specs.Placing.{Placed};
 
-// Row j, which is 0, becomes that of symbol j: the constant for 1, else 0.
-fn put(word: &[u8], vals: &mut [u64], c: usize, w: usize, j: usize)
-    requires { (length vals.old ≡ length word.now * w) × (j < length word.now) × (c < w) × (row w vals.old j ≡ nought_row w) }
-    ensures { PutSymbol c w j (get_or word.now j 0) vals.old vals.new }
-{
-    if word[j] == 1 {
-        vals[j * w + c] = 1;
-    }
-}
+use crate::word::Word;
 
-// The rows of a word's symbols: w words each, the constant in word c.
-pub fn place(word: &[u8], vals: &mut [u64], c: usize, w: usize)
-    requires { (vals.old ≡ replicate (length word.now * w) 0) × (c < w) }
-    ensures { Placed c w (length word.now) word.now vals.new }
+// The rows of a word's symbols, the constant in the word behind the coefficients.
+pub fn place(w: &Word, vals: &mut [u64])
+    requires { vals.old ≡ replicate (symbol_words w.now) 0 }
+    ensures { Placed w.now.terms.coeffs w.now.terms.words (length w.now.symbols.now) w.now.symbols.now vals.new }
 {
-    let mut j = 0;
-    while j < word.len() {
-        put(word, vals, c, w, j);
-        j += 1;
+    let t = w.terms;
+    // by index, since of what `chunks_exact_mut` lends a proof learns only the length
+    for (j, s) in w.symbols.iter().enumerate() {
+        vals[j * t.words + t.coeffs] = u64::from(*s == 1);
     }
 }

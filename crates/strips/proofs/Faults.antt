@@ -5,8 +5,9 @@
 --     lane-formed                  no fault of form in a strip, none in its lanes
 --     marks-many, form_room        then there are N marks, and room for the output
 --     repair_refused               repairing is refused for it
---     repair_passed                nothing is refused
---     repair_decided               what is left to decide
+--     deciding-is                  nothing is refused: what is left to decide
+--     few_records, formed, whole, roomy      what is known then
+--     over, decided_at, narrow     the unknowns are counted first
 use mathlib.Core.Path.{◌≡◌, refl, sym, ap, ap₂, ◌∙◌}
 use mathlib.Core.Logic.{⊎_elim}
 use Prim.Native.Nat.{ℕ, zero, suc, ◌+◌, ◌*◌, ◌/◌, ◌^◌, ◌≤◌, ◌<◌}
@@ -23,17 +24,25 @@ use Rattle.meaning.specs.Sheet.{rules}
 use Rattle.meaning.specs.Codewords.{erased, candidates}
 use Rattle.meaning.specs.Open.{is_open, open_all, open_free, closed_frozen, unknowns, equations}
 use Rattle.meaning.specs.Answers.{Refusal, ◌⇒◌, first_of, fault, is_done, checking, wording, refuses, sheet_refusals, word_refusals, form_refusals, Reply, leaving, verdict}
+use Rattle.meaning.specs.Results.{refusal}
 use Rattle.meaning.specs.declared.Answer.{Answer}
 use Rattle.meaning.specs.declared.Answer.TheVariants.{Done, BadLength, BadCeiling, TooMany}
+use Rattle.meaning.specs.declared.Refused.{Refused}
+use Rattle.meaning.proofs.Results.{refusal_stops}
 use Rattle.meaning.proofs.Refusals.{tried_done, tried_refused, past_none, none_append}
-use Rattle.meaning.proofs.Forms.{good, checked-none, worded, worded_none}
+use Rattle.meaning.proofs.Forms.{good, checked-none, Worded, worded, worded_none}
 use Rattle.meaning.proofs.Demands.{under}
 use Rattle.sheet.proofs.Records.{records_in}
-use Rattle.sheet.proofs.Shapes.{size-most}
+use Rattle.sheet.proofs.Shapes.{size-most, shaped_when}
+use Rattle.counting.specs.Counting.{counting}
+use Rattle.counting.proofs.Lengths.{counting-all}
+use Rattle.system.proofs.Testing.{length-checked}
+use Rattle.decoder.specs.Deciding.{Formed}
 use Rattle.decoder.proofs.Deciding.{form_none}
 use Rattle.strips.specs.Repairing.{lane_bit, lane_of, repair_form, repair_refusals, lane_reply, strip_reply, repairing}
 use Rattle.strips.specs.Placing.{lost_sym, lost_word}
-use Rattle.strips.specs.Deciding.{lane_in, lane_verdict, repair_deciding, Formed}
+use Rattle.strips.specs.Deciding.{lane_in, lane_verdict, repair_deciding}
+use Rattle.strips.specs.Rooms.{most_wide}
 
 -- ---- the fault of form
 
@@ -54,14 +63,14 @@ module _ (n : ℕ) (s : List ℕ) (r c strip : ℕ) (w : List ℕ) (room : ℕ) 
   unfolding repair_form
   table = ap (λ (t : List Refusal). first_of (λ (x : Answer). x) t Done) (append_assoc S L C)
 
-  module _ (a : Answer) (ea : a ≡ checking n s r) (b : Bool) (eb : b ≡ is_done a) where
-    pub fault_sheet : b ≡ false → a ≡ fault (repair_form n s r c strip w room)
+  module _ (a : Answer) (ea : a ≡ checking n s r) where
+    pub fault_sheet : is_done a ≡ false → a ≡ fault (repair_form n s r c strip w room)
     unfolding checking
-    fault_sheet t = ea ∙ sym (tried_refused (λ (x : Answer). x) S (L ++ C) Done (ap is_done (sym ea) ∙ sym eb ∙ t)) ∙ sym table
+    fault_sheet t = ea ∙ sym (tried_refused (λ (x : Answer). x) S (L ++ C) Done (ap is_done (sym ea) ∙ t)) ∙ sym table
 
-    module _ (t : b ≡ true) where
+    module _ (t : is_done a ≡ true) where
       sheet_none : refuses S ≡ false
-      sheet_none = checked-none n s r (ap is_done (sym ea) ∙ sym eb ∙ t)
+      sheet_none = checked-none n s r (ap is_done (sym ea) ∙ t)
 
       size_is : length s / record_bytes ≡ 2 ^ n
       size_is = records_in (length s) (2 ^ n) (good n s r sheet_none).long
@@ -72,7 +81,7 @@ module _ (n : ℕ) (s : List ℕ) (r c strip : ℕ) (w : List ℕ) (room : ℕ) 
       pub fault-strip : (strip ≡ length s / record_bytes * 64 → ⊥) → BadLength ≡ fault (repair_form n s r c strip w room)
       fault-strip h = sym (past_sheet ∙ rw (ne_eqb strip (2 ^ n * 64) (λ z. h (z ∙ ap (λ (k : ℕ). k * 64) (sym size_is)))) refl)
 
-      module _ (l : strip ≡ length s / record_bytes * 64) (v : Answer) (ev : v ≡ wording (length s / record_bytes) 1 (65 * (length s / record_bytes)) w room) (d : Bool) (ed : d ≡ is_done v) where
+      module _ (l : strip ≡ length s / record_bytes * 64) (v : Answer) (ev : v ≡ wording (length s / record_bytes) 1 (65 * (length s / record_bytes)) w room) where
         -- N, in the value that the code has
         meant : v ≡ wording (2 ^ n) 1 (65 * 2 ^ n) w room
         meant = ev ∙ ap (λ (k : ℕ). wording k 1 (65 * k) w room) size_is
@@ -80,17 +89,17 @@ module _ (n : ℕ) (s : List ℕ) (r c strip : ℕ) (w : List ℕ) (room : ℕ) 
         past_strip : fault (repair_form n s r c strip w room) ≡ first_of (λ (x : Answer). x) (W ++ C) Done
         past_strip = past_sheet ∙ rw (eq-eqb strip (2 ^ n * 64) (l ∙ ap (λ (k : ℕ). k * 64) size_is)) refl
 
-        pub fault_word : d ≡ false → v ≡ fault (repair_form n s r c strip w room)
+        pub fault_word : is_done v ≡ false → v ≡ fault (repair_form n s r c strip w room)
         unfolding wording
-        fault_word q = meant ∙ sym (tried_refused (λ (x : Answer). x) W C Done (ap is_done (sym meant) ∙ sym ed ∙ q)) ∙ sym past_strip
+        fault_word q = meant ∙ sym (tried_refused (λ (x : Answer). x) W C Done (ap is_done (sym meant) ∙ q)) ∙ sym past_strip
 
-        past_word : d ≡ true → fault (repair_form n s r c strip w room) ≡ pick (ltb largest_ceiling c) BadCeiling Done
-        past_word q = past_strip ∙ past_none (λ (x : Answer). x) W C Done (worded_none (2 ^ n) 1 (65 * 2 ^ n) w room (ap is_done (sym meant) ∙ sym ed ∙ q))
+        past_word : is_done v ≡ true → fault (repair_form n s r c strip w room) ≡ pick (ltb largest_ceiling c) BadCeiling Done
+        past_word q = past_strip ∙ past_none (λ (x : Answer). x) W C Done (worded_none (2 ^ n) 1 (65 * 2 ^ n) w room (ap is_done (sym meant) ∙ q))
 
-        pub fault_ceiling : d ≡ true → largest_ceiling < c → BadCeiling ≡ fault (repair_form n s r c strip w room)
+        pub fault_ceiling : is_done v ≡ true → largest_ceiling < c → BadCeiling ≡ fault (repair_form n s r c strip w room)
         fault_ceiling q h = sym (past_word q ∙ rw (lt-ltb largest_ceiling c h) refl)
 
-        pub fault-none : d ≡ true → c ≤ largest_ceiling → Done ≡ fault (repair_form n s r c strip w room)
+        pub fault-none : is_done v ≡ true → c ≤ largest_ceiling → Done ≡ fault (repair_form n s r c strip w room)
         fault-none q h = sym (past_word q ∙ rw (le-ltb largest_ceiling c h) refl)
 
 -- ---- what is lost, as a word
@@ -169,14 +178,24 @@ module _ (n : ℕ) (s : List ℕ) (r c : ℕ) (strip lost out : List ℕ) where
   unfolding equations
   m_same t = ap (λ (o : List Bool). ones (closed_frozen (rules n s) o) + r) (ap (open_all n) (lane-same strip lost t) ∙ open_same strip (lost_word lost) t n)
 
-  -- no fault of form in a strip, none in its lanes
-  pub lane-formed : refuses F ≡ false → (t : ℕ) (o : List ℕ) → 3 * 2 ^ n ≤ length o → refuses (form_refusals n s r c (lane_of strip lost t) (length o)) ≡ false
-  unfolding repair_form word_refusals
-  lane-formed h t o k =
+  -- a good sheet, N records, N marks with room for the output, and a ceiling
+  parts : refuses F ≡ false → (refuses (sheet_refusals n s r) ≡ false) × (length strip ≡ 2 ^ n * 64) × Worded (2 ^ n) 1 (65 * 2 ^ n) lost (length out) × (c ≤ largest_ceiling)
+  unfolding repair_form
+  parts h =
       let (p, u) = none_append (S n s r c (length strip) lost (length out) ++ L n s r c (length strip) lost (length out)) _ h in
       let (q, v) = none_append (S n s r c (length strip) lost (length out)) _ p in
-      let d = worded (2 ^ n) 1 (65 * 2 ^ n) lost (length out) (or_false_r (not (eqb (length strip) (2 ^ n * 64))) _ v) in
-      form_none n s r c (lane_of strip lost t) o q (lane_worded strip lost t (2 ^ n) (length o) d.long k) (ltb-false largest_ceiling c (or_false_l (ltb largest_ceiling c) false u))
+      let o = not (eqb (length strip) (2 ^ n * 64)) in (
+        q,
+        eqb-true (length strip) (2 ^ n * 64) (not-false _ (or_false_l o _ v)),
+        worded (2 ^ n) 1 (65 * 2 ^ n) lost (length out) (or_false_r o _ v),
+        ltb-false largest_ceiling c (or_false_l (ltb largest_ceiling c) false u),
+      )
+
+  -- no fault of form in a strip, none in its lanes
+  pub lane-formed : refuses F ≡ false → (t : ℕ) (o : List ℕ) → 3 * 2 ^ n ≤ length o → refuses (form_refusals n s r c (lane_of strip lost t) (length o)) ≡ false
+  lane-formed h t o k =
+      let (q, e, d, low) = parts h in
+      form_none n s r c (lane_of strip lost t) o q (lane_worded strip lost t (2 ^ n) (length o) d.long k) low
 
   -- what `decode` answers lane t, where 18 does not apply
   lane_told : refuses F ≡ false → unknowns n (rules n s) (lost_word lost) ≤ c → (t : ℕ) → lane_reply n s r c strip lost t ≡ lane_verdict n s r strip (lost_word lost) t
@@ -198,46 +217,69 @@ module _ (n : ℕ) (s : List ℕ) (r c : ℕ) (strip lost out : List ℕ) where
       go true e = refl
       go false e = ap (λ (f : ℕ → Reply). strip_reply n f out) (λ i t. lane_told h (ltb-false c (unknowns n (rules n s) W') e) t i)
 
-  formed : refuses F ≡ false → Formed n s r c (length strip) (length (lost_word lost)) (length out)
-  unfolding repair_form
-  formed h =
-      let (p, u) = none_append (S n s r c (length strip) lost (length out) ++ L n s r c (length strip) lost (length out)) _ h in
-      let (q, v) = none_append (S n s r c (length strip) lost (length out)) _ p in
-      let g = good n s r q in
-      let d = worded (2 ^ n) 1 (65 * 2 ^ n) lost (length out) (or_false_r (not (eqb (length strip) (2 ^ n * 64))) _ v) in
-      record {
-        small = g.small;
-        long = g.long;
-        ordered = g.ordered;
-        check = g.check;
-        enough = g.roomy;
-        records = eqb-true (length strip) (2 ^ n * 64) (not-false (eqb (length strip) (2 ^ n * 64)) (or_false_l (not (eqb (length strip) (2 ^ n * 64))) _ v));
-        symbols = length-map lost lost_sym ∙ d.long;
-        room = d.roomy;
-        low = ltb-false largest_ceiling c (or_false_l (ltb largest_ceiling c) false u);
-      }
-
   pub marks-many : refuses F ≡ false → length lost ≡ 2 ^ n
-  marks-many h = sym (length-map lost lost_sym) ∙ (formed h).symbols
+  marks-many h = let (q, e, d, low) = parts h in d.long
 
   pub form_room : refuses F ≡ false → 65 * 2 ^ n ≤ length out
-  form_room h = (formed h).room
+  form_room h = let (q, e, d, low) = parts h in d.roomy
 
-  module _ (a : Answer) (ea : a ≡ fault (repair_form n s r c (length strip) lost (length out))) (b : Bool) (eb : b ≡ is_done a) where
-    pub repair_refused : b ≡ false → leaving out a ≡ repairing n s r c strip lost out
-    unfolding repairing repair_refusals
-    repair_refused t = ap (leaving out) ea ∙ sym (tried_refused (leaving out) F ((ltb c G ⇒ TooMany G) ∷ []) last (ap is_done (sym ea) ∙ sym eb ∙ t))
+  pub repair_refused : (e : Refused) → refusal e ≡ fault F → leaving out (refusal e) ≡ repairing n s r c strip lost out
+  unfolding repairing repair_refusals
+  repair_refused e p = ap (leaving out) p ∙ sym (tried_refused (leaving out) F ((ltb c G ⇒ TooMany G) ∷ []) last (ap is_done (sym p) ∙ refusal_stops e))
 
-    none : b ≡ true → refuses F ≡ false
+  -- no fault of form was found
+  module _ (done : Done ≡ fault F) where
+    passed : refuses F ≡ false
     unfolding repair_form sheet_refusals word_refusals
-    none t = tried_done F refl (ap is_done (sym ea) ∙ sym eb ∙ t)
+    passed = tried_done F refl (ap is_done (sym done))
 
-    pub repair_passed : b ≡ true → Formed n s r c (length strip) (length (lost_word lost)) (length out)
-    repair_passed t = formed (none t)
+    -- no more records than a mask can name
+    pub few_records : length lost ≤ 8 * mask_bytes
+    few_records = let (q, e, d, low) = parts passed in size-most n (length lost) (good n s r q).small d.long
 
-    pub repair_decided : b ≡ true → (x : Reply) → x ≡ repair_deciding n s r c strip (lost_word lost) out → x ≡ repairing n s r c strip lost out
-    repair_decided t x p = p ∙ deciding-is (none t)
+    module _ (word : List ℕ) (ew : word ≡ lost_word lost) where
+      many : length word ≡ 2 ^ n
+      many = ap length ew ∙ length-map lost lost_sym ∙ marks-many passed
 
--- no more records than a mask can name
-pub few_records : (n : ℕ) (s : List ℕ) (r c strip : ℕ) (lost : List ℕ) (out : ℕ) → Formed n s r c strip (length (lost_word lost)) out → length lost ≤ 8 * mask_bytes
-few_records n s r c strip lost out F = size-most n (length lost) F.small (sym (length-map lost lost_sym) ∙ F.symbols)
+      pub formed : Formed n s r word
+      formed =
+          let (q, e, d, low) = parts passed in
+          let g = good n s r q in
+          record {
+            small = g.small;
+            long = g.long;
+            ordered = g.ordered;
+            check = length-checked g.check;
+            symbols = many;
+          }
+
+      pub whole : length strip ≡ 2 ^ n * 64
+      whole = let (q, e, d, low) = parts passed in e
+
+      pub roomy : 65 * length word ≤ length out
+      roomy = omega (arith, many, form_room passed)
+
+      module _ (g : ℕ) (eg : g ≡ counting n s word) where
+        all-counted : g ≡ unknowns n (rules n s) word
+        all-counted = let f = formed in eg ∙ counting-all n s word refl (shaped_when n (length s) (length word) f.small f.long f.symbols)
+
+        same : g ≡ unknowns n (rules n s) (lost_word lost)
+        same = all-counted ∙ ap (unknowns n (rules n s)) ew
+
+        pub over : c < g → leaving out (TooMany g) ≡ repairing n s r c strip lost out
+        unfolding repair_deciding
+        over h = ap (λ (k : ℕ). leaving out (TooMany k)) same ∙ sym (rw (lt-ltb c (unknowns n (rules n s) (lost_word lost)) (omega (arith, same))) refl) ∙ deciding-is passed
+
+        module _ (h : g ≤ c) where
+          -- the ceiling can as well be the number of unknowns
+          pub decided_at : (x : Reply) → x ≡ repair_deciding n s r g strip word out → x ≡ repairing n s r c strip lost out
+          unfolding repair_deciding
+          decided_at x p =
+              let e : repair_deciding n s r g strip (lost_word lost) out ≡ repair_deciding n s r c strip (lost_word lost) out =
+              rw (le-ltb g (unknowns n (rules n s) (lost_word lost)) (omega (arith, same)), le-ltb c (unknowns n (rules n s) (lost_word lost)) (omega (arith, same))) refl in
+              p ∙ ap (λ (l : List ℕ). repair_deciding n s r g strip l out) ew ∙ e ∙ deciding-is passed
+
+          -- a word for each 64 unknowns, one for the constant, and eight for the lanes
+          pub narrow : g / 64 + 1 + 9 ≤ most_wide
+          unfolding most_wide
+          narrow = let (q, e, d, low) = parts passed in omega (arith, h, low)

@@ -1,6 +1,6 @@
--- What follows from the promise of `repair`: of any answer a, and bytes x of the output after the call. Premise of all but the first three: no fault of form, so
+-- What follows from the promise of `repair`: of any answer a, and bytes x of the output after the call. Premise of all but the first four: no fault of form, so
 -- that no refusal but 18 applies.
---     repair_determined     any two results that the promise allows are equal
+--     repair_determined, same_result     any two results that the promise allows are equal, as answers and as they are
 --     repair_untouched      what is refused leaves the output as found
 --     lost_ignored          two strips that differ in lost records alone get the same reply
 --     Laned, each_lane      each lane's answer is what any result of `decode` on that lane alone gives: code, g, m, d and settled places; its demand 3 is why a
@@ -30,11 +30,16 @@ use Rattle.meaning.specs.Codewords.{fits, agrees, candidates}
 use Rattle.meaning.specs.Open.{unknowns, equations}
 use Rattle.meaning.specs.Strips.{settled_at}
 use Rattle.meaning.specs.Answers.{Reply, numbers_of, first_of, refuses, form_refusals, reply, leaving, writing, verdict, decoding}
+use Rattle.std.specs.Prelude.{Result}
+use Rattle.meaning.specs.Results.{verdict_or_refusal}
+use Rattle.meaning.specs.declared.Verdict.{Verdict}
+use Rattle.meaning.specs.declared.Refused.{Refused}
 use Rattle.meaning.specs.declared.Answer.{Answer}
 use Rattle.meaning.specs.declared.Answer.TheVariants.{TooMany}
 use Rattle.meaning.proofs.Refusals.{refused_untouched, past_none}
 use Rattle.meaning.proofs.Candidates.{candidate_iff}
 use Rattle.meaning.proofs.Determined.{reply_determined}
+use Rattle.meaning.proofs.Results.{verdict_or_refusal_same}
 use Rattle.meaning.proofs.Unique.{settled_le, unique_settled}
 use Rattle.meaning.proofs.Demands.{code, g_of_lem, m_of_lem, d_of_lem, over, under, over_iff, verdict-settled, same-unknowns, SameFate, demand_3}
 use Rattle.verdict.proofs.Listing.{common-same}
@@ -47,6 +52,12 @@ use Rattle.strips.proofs.Kept.{record_long, reply_below}
 pub repair_determined : (n : ℕ) (s : List ℕ) (r c : ℕ) (strip lost out x x' : List ℕ) (a a' : Answer)
     → reply x a ≡ repairing n s r c strip lost out → reply x' a' ≡ repairing n s r c strip lost out → (a ≡ a') × (x ≡ x')
 repair_determined n s r c strip lost out x x' a a' p q = reply_determined a a' x x' (repairing n s r c strip lost out) p q
+
+pub same_result : (n : ℕ) (s : List ℕ) (r c : ℕ) (strip lost out x x' : List ℕ) (a a' : Result Verdict Refused)
+    → reply x (verdict_or_refusal a) ≡ repairing n s r c strip lost out → reply x' (verdict_or_refusal a') ≡ repairing n s r c strip lost out → (a ≡ a') × (x ≡ x')
+same_result n s r c strip lost out x x' a a' p q =
+    let (e, f) = repair_determined n s r c strip lost out x x' (verdict_or_refusal a) (verdict_or_refusal a') p q in
+    (verdict_or_refusal_same a a' e, f)
 
 pub repair_untouched : (n : ℕ) (s : List ℕ) (r c : ℕ) (strip lost out x : List ℕ) (a : Answer)
     → reply x a ≡ repairing n s r c strip lost out → refuses (repair_refusals n s r c strip lost out) ≡ true → x ≡ out

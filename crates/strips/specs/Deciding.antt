@@ -1,11 +1,9 @@
 -- Repairing, part by part.
 --     lane_in             the word of lane t, of symbols above 1 where the record is lost
 --     repair_deciding     what is left once no fault of form is found: too many unknowns, or the reply
---     Formed             no fault of form: what these refusals leave
-use Rattle.std.specs.Prelude.{◌≡◌, ◌⊎◌, ℕ, ◌*◌, ◌^◌, ◌≤◌, true, List, length, get_or, replicate, ltb}
+use Rattle.std.specs.Prelude.{ℕ, ◌*◌, ◌^◌, List, length, get_or, replicate, ltb}
 use Rattle.bits.specs.Vectors.{pick, tab}
-use Rattle.meaning.specs.Limits.{largest_n, record_bytes, largest_ceiling}
-use Rattle.meaning.specs.Sheet.{rules, frees, early}
+use Rattle.meaning.specs.Sheet.{rules}
 use Rattle.meaning.specs.Codewords.{erased, candidates}
 use Rattle.meaning.specs.Open.{unknowns, equations}
 use Rattle.meaning.specs.Answers.{Reply, leaving, verdict}
@@ -24,14 +22,3 @@ unfoldable pub repair_deciding : ℕ → List ℕ → ℕ → ℕ → List ℕ �
 repair_deciding n s r c strip word out =
     let g = unknowns n (rules n s) word in
     pick (ltb c g) (leaving out (TooMany g)) (strip_reply n (lane_verdict n s r strip word) out)
-
-pub record Formed (n : ℕ) (s : List ℕ) (r c strip word out : ℕ) : Type 0 where
-  pub small : n ≤ largest_n
-  pub long : length s ≡ 2 ^ n * record_bytes
-  pub ordered : early 0 (rules n s) ≡ true
-  pub check : (r ≡ 0) ⊎ ((r ≡ 6) ⊎ (r ≡ 11))
-  pub enough : r ≤ frees (rules n s)
-  pub records : strip ≡ 2 ^ n * 64
-  pub symbols : word ≡ 2 ^ n
-  pub room : 65 * 2 ^ n ≤ out
-  pub low : c ≤ largest_ceiling

@@ -5,8 +5,8 @@ use Rattle.std.specs.Prelude.{◌≡◌, ◌⊎◌, ℕ, ◌+◌, ◌*◌, ◌�
 use Rattle.bits.specs.Vectors.{pick}
 use Rattle.bits.specs.Bytes.{Holds}
 
-pub record PutLanes (to at : ℕ) (strip v v' : List ℕ) : Type 0 where
-  pub new : (k : ℕ) → k < 8 → Holds 8 strip (at + 8 * k) (get_or v' (to + k) 0)
+pub record PutLanes (to : ℕ) (bytes v v' : List ℕ) : Type 0 where
+  pub new : (k : ℕ) → k < 8 → Holds 8 bytes (8 * k) (get_or v' (to + k) 0)
   pub old : (p : ℕ) → (p < to) ⊎ (to + 8 ≤ p) → get_or v' p 0 ≡ get_or v p 0
 
 pub record Placed (c w n : ℕ) (strip v : List ℕ) : Type 0 where

@@ -1,32 +1,30 @@
-// Rows made of the records of a strip.
-ghost use Rattle.std.specs.Prelude.{◌≡◌, ◌+◌, ◌*◌, ◌≤◌, length};
+// Rows made of the records of a strip, in room that holds zeros.
+ghost use Rattle.std.specs.Prelude.{◌≡◌, ◌+◌, ◌≤◌, length, replicate};
+ghost use Rattle.strips.specs.Answering.{record_words};
 ghost use Rattle.strips.specs.Placing.{PutLanes, Placed, lost_sym, lost_word};
 
-use bits::{octets, rows};
+use crate::strip::Strip;
+use bits::octets;
 
-// The eight words of the record whose bytes start at `at` go to `to`.
-fn put(vals: &mut [u64], to: usize, strip: &[u8], at: usize)
-    requires { (to + 8 ≤ length vals.old) × (at + 64 ≤ length strip.now) }
-    ensures { PutLanes to at strip.now vals.old vals.new }
+// The eight words of a record of these bytes go to `to`.
+fn put(vals: &mut [u64], to: usize, bytes: &[u8])
+    requires { (to + 8 ≤ length vals.old) × (length bytes.now ≡ 64) }
+    ensures { PutLanes to bytes.now vals.old vals.new }
 {
-    let mut k = 0;
-    while k < 8 {
-        vals[to + k] = octets::eight(strip, at + 8 * k);
-        k += 1;
+    // by index, since of what `iter_mut` and `chunks_exact_mut` lend to a zip a proof learns only the length
+    for k in 0..8 {
+        vals[to + k] = octets::eight(bytes, 8 * k);
     }
 }
 
-// The rows of `size` records: w = c + 9 words each, of which the last eight are the record's.
-pub fn place(vals: &mut [u64], strip: &[u8], size: usize, c: usize, w: usize)
-    requires { (c + 9 ≡ w) × (length vals.old ≡ size * w) × (length strip.now ≡ size * 64) }
-    ensures { Placed c w size strip.now vals.new }
+// The rows of a strip's records, of which the last eight words are the record's.
+pub fn place(s: &Strip, vals: &mut [u64])
+    requires { vals.old ≡ replicate (record_words s.now) 0 }
+    ensures { Placed s.now.terms.coeffs s.now.terms.words (length s.now.lost.now) s.now.records.now vals.new }
 {
-    let all = vals.len();
-    rows::zero(vals, 0, all);
-    let mut j = 0;
-    while j < size {
-        put(vals, j * w + (c + 1), strip, j * 64);
-        j += 1;
+    let t = s.terms;
+    for (j, bytes) in s.iter().enumerate() {
+        put(vals, j * t.words + (t.coeffs + 1), bytes);
     }
 }
 
@@ -42,9 +40,8 @@ pub fn erase(lost: &[u8], word: &mut [u8])
     requires { length word.old ≡ length lost.now }
     ensures { word.new ≡ lost_word lost.now }
 {
-    let mut j = 0;
-    while j < lost.len() {
-        word[j] = symbol(lost[j]);
-        j += 1;
+    // by index, as above
+    for (j, mark) in lost.iter().enumerate() {
+        word[j] = symbol(*mark);
     }
 }

@@ -1,13 +1,13 @@
 // Room for the rows of a strip, N records and N + r equations, by need: clearing room for the largest code costs more than
 // answering a short strip.
-ghost use Rattle.std.specs.Prelude.{◌≡◌, ◌+◌, ◌*◌, ◌≤◌, length};
+ghost use Rattle.std.specs.Prelude.{◌≡◌, ◌*◌, ◌≤◌, length};
 ghost use Rattle.meaning.specs.Answers.{reply};
-ghost use Rattle.descent.specs.Descending.{widest};
-ghost use Rattle.strips.specs.Deciding.{repair_deciding, Formed};
-ghost use Rattle.strips.specs.Rooms.{few_words, some_words, most_words};
+ghost use Rattle.meaning.specs.Results.{verdict_or_refusal};
+ghost use Rattle.strips.specs.Answering.{equation_words, Roomy, answering};
 
-use super::solving;
-use meaning::{Answer, limits};
+use crate::solving;
+use crate::strip::Strip;
+use meaning::{Refused, Verdict, limits};
 
 // Enough for N = 16 and up to 63 unknowns.
 const FEW: usize = 270;
@@ -19,132 +19,32 @@ const SOME: usize = 1390;
 const MOST: usize = (limits::POSITIONS + system::LONGEST_CHECK)
     * (limits::LARGEST_CEILING / 64 + 10);
 
-// `answer`, in slices with room for the rows.
-fn within(
-    c: usize,
-    n: usize,
-    sheet: &[u8],
-    r: usize,
-    g: usize,
-    strip: &[u8],
-    word: &[u8],
-    vals: &mut [u64],
-    us: &mut [u64],
-    eqs: &mut [u64],
-    out: &mut [u8],
-) -> Answer
-    requires formed { Formed n sheet.now r g (length strip.now) (length word.now) (length out.old) }
-    requires g_bound { (g ≤ 64 * c) × (c + 9 ≤ widest) × (length word.now * (c + 9) ≤ length vals.old) × (length word.now * (c + 9) ≤ length us.old) × ((length word.now + r) * (c + 9) ≤ length eqs.old) }
-    ensures { reply out.new result ≡ repair_deciding n sheet.now r g strip.now word.now out.old }
+// Answers a strip in room of V words for the records' rows, as many for those of u, and as many for the equations.
+fn room<const V: usize>(s: &Strip, out: &mut [u8]) -> Result<Verdict, Refused>
+    requires roomy { Roomy s.now out.old }
+    requires small { V ≤ MOST }
+    requires enough { equation_words s.now ≤ V }
+    ensures { reply out.new (verdict_or_refusal result) ≡ answering s.now out.old }
 {
-    let k = word.len() * (c + 9);
-    let q = (word.len() + r) * (c + 9);
-    solving::answer(
-        c,
-        c + 9,
-        n,
-        sheet,
-        r,
-        g,
-        strip,
-        word,
-        &mut vals[0..k],
-        &mut us[0..k],
-        &mut eqs[0..q],
-        out,
-    )
+    let mut vals = [0u64; V];
+    let mut us = [0u64; V];
+    let mut eqs = [0u64; V];
+    let used = s.record_words();
+    let more = s.equation_words();
+    solving::answer(s, &mut vals[..used], &mut us[..used], &mut eqs[..more], out)
 }
 
-// `answer`, where FEW words are enough.
-fn few(
-    c: usize,
-    n: usize,
-    sheet: &[u8],
-    r: usize,
-    g: usize,
-    strip: &[u8],
-    word: &[u8],
-    out: &mut [u8],
-) -> Answer
-    requires formed { Formed n sheet.now r g (length strip.now) (length word.now) (length out.old) }
-    requires g_bound { (g ≤ 64 * c) × (c + 9 ≤ widest) × ((length word.now + r) * (c + 9) ≤ few_words) }
-    ensures { reply out.new result ≡ repair_deciding n sheet.now r g strip.now word.now out.old }
+// Answers a strip.
+pub fn answer(s: &Strip, out: &mut [u8]) -> Result<Verdict, Refused>
+    requires { Roomy s.now out.old }
+    ensures { reply out.new (verdict_or_refusal result) ≡ answering s.now out.old }
 {
-    let mut vals = [0u64; FEW];
-    let mut us = [0u64; FEW];
-    let mut eqs = [0u64; FEW];
-    within(
-        c, n, sheet, r, g, strip, word, &mut vals, &mut us, &mut eqs, out,
-    )
-}
-
-// `answer`, where SOME words are enough.
-fn some(
-    c: usize,
-    n: usize,
-    sheet: &[u8],
-    r: usize,
-    g: usize,
-    strip: &[u8],
-    word: &[u8],
-    out: &mut [u8],
-) -> Answer
-    requires formed { Formed n sheet.now r g (length strip.now) (length word.now) (length out.old) }
-    requires g_bound { (g ≤ 64 * c) × (c + 9 ≤ widest) × ((length word.now + r) * (c + 9) ≤ some_words) }
-    ensures { reply out.new result ≡ repair_deciding n sheet.now r g strip.now word.now out.old }
-{
-    let mut vals = [0u64; SOME];
-    let mut us = [0u64; SOME];
-    let mut eqs = [0u64; SOME];
-    within(
-        c, n, sheet, r, g, strip, word, &mut vals, &mut us, &mut eqs, out,
-    )
-}
-
-// `answer`, where MOST words are enough.
-fn most(
-    c: usize,
-    n: usize,
-    sheet: &[u8],
-    r: usize,
-    g: usize,
-    strip: &[u8],
-    word: &[u8],
-    out: &mut [u8],
-) -> Answer
-    requires formed { Formed n sheet.now r g (length strip.now) (length word.now) (length out.old) }
-    requires g_bound { (g ≤ 64 * c) × (c + 9 ≤ widest) × ((length word.now + r) * (c + 9) ≤ most_words) }
-    ensures { reply out.new result ≡ repair_deciding n sheet.now r g strip.now word.now out.old }
-{
-    let mut vals = [0u64; MOST];
-    let mut us = [0u64; MOST];
-    let mut eqs = [0u64; MOST];
-    within(
-        c, n, sheet, r, g, strip, word, &mut vals, &mut us, &mut eqs, out,
-    )
-}
-
-// Answers a strip of g unknowns, whose rows have c words of coefficients and nine more.
-pub fn answer(
-    c: usize,
-    n: usize,
-    sheet: &[u8],
-    r: usize,
-    g: usize,
-    strip: &[u8],
-    word: &[u8],
-    out: &mut [u8],
-) -> Answer
-    requires formed { Formed n sheet.now r g (length strip.now) (length word.now) (length out.old) }
-    requires g_bound { (g ≤ 64 * c) × (c + 9 ≤ widest) × ((length word.now + r) * (c + 9) ≤ most_words) }
-    ensures { reply out.new result ≡ repair_deciding n sheet.now r g strip.now word.now out.old }
-{
-    let words = (word.len() + r) * (c + 9);
+    let words = s.equation_words();
     if words <= FEW {
-        return few(c, n, sheet, r, g, strip, word, out);
+        return room::<FEW>(s, out);
     }
     if words <= SOME {
-        return some(c, n, sheet, r, g, strip, word, out);
+        return room::<SOME>(s, out);
     }
-    most(c, n, sheet, r, g, strip, word, out)
+    room::<MOST>(s, out)
 }

@@ -1,46 +1,30 @@
-// From the records to the answer, on rows of w words: c of coefficients, one for the constant of all lanes, eight for the lanes.
-ghost use Rattle.std.specs.Prelude.{◌≡◌, ◌+◌, ◌*◌, ◌^◌, ◌≤◌, length};
+// From the records to the answer, on rows of words: of coefficients, one for the constant of all lanes, eight for the lanes.
+ghost use Rattle.std.specs.Prelude.{◌≡◌, ◌*◌, ◌≤◌, length, replicate};
 ghost use Rattle.meaning.specs.Answers.{reply};
-ghost use Rattle.descent.specs.Descending.{widest};
-ghost use Rattle.strips.specs.Deciding.{repair_deciding, Formed};
+ghost use Rattle.meaning.specs.Results.{verdict_or_refusal};
+ghost use Rattle.strips.specs.Answering.{record_words, equation_words, Roomy, answering};
 
-use super::place;
-use meaning::Answer;
-use system::{System, Terms};
+use crate::place;
+use crate::strip::Strip;
+use meaning::{Refused, Verdict};
+use system::Solved;
 
-// Answers a strip on slices of N, N and N + r rows of w words, c of them coefficients.
+// Answers a strip in slices of N, N and N + r rows; those of `vals` are 0.
 pub fn answer(
-    c: usize,
-    w: usize,
-    n: usize,
-    sheet: &[u8],
-    r: usize,
-    ceiling: usize,
-    strip: &[u8],
-    word: &[u8],
+    s: &Strip,
     vals: &mut [u64],
     us: &mut [u64],
     eqs: &mut [u64],
     out: &mut [u8],
-) -> Answer
-    requires formed { Formed n sheet.now r ceiling (length strip.now) (length word.now) (length out.old) }
-    requires c_value { (c + 9 ≡ w) × (w ≤ widest) × (ceiling ≤ 64 * c) × (length vals.old ≡ 2 ^ n * w) × (length us.old ≡ 2 ^ n * w) × (length eqs.old ≡ (2 ^ n + r) * w) }
-    ensures { reply out.new result ≡ repair_deciding n sheet.now r ceiling strip.now word.now out.old }
+) -> Result<Verdict, Refused>
+    requires roomy { Roomy s.now out.old }
+    requires zeros { vals.old ≡ replicate (record_words s.now) 0 }
+    requires rows { (length us.old ≡ record_words s.now) × (length eqs.old ≡ equation_words s.now) }
+    ensures { reply out.new (verdict_or_refusal result) ≡ answering s.now out.old }
 {
-    place::place(vals, strip, word.len(), c, w);
-    let t = Terms {
-        n,
-        r,
-        most: ceiling,
-        coeffs: c,
-        words: w,
-    };
-    match system::solve(sheet, word, t, vals, us, eqs) {
-        System::Misfit => Answer::BadShape,
-        System::Over { g } => Answer::TooMany { g },
-        System::Solved { g, m, rank } => {
-            let used = m * w;
-            lanes::conclude(c, w, g, m, rank, &eqs[..used], vals, out)
-        }
-    }
+    let t = s.terms;
+    place::place(s, vals);
+    let Solved { g, m, rank } = system::solve(s.sheet, s.lost, t, vals, us, eqs)?;
+    let used = m * t.words;
+    lanes::conclude(t.coeffs, t.words, g, m, rank, &eqs[..used], vals, out)
 }

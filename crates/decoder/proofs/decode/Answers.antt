@@ -1,16 +1,28 @@
-use borrow.Author.Tests.{not-true, not-false}
-use Rattle.decoder.proofs.Deciding.{decode_refused, decode_passed, decode_decided}
-use mathlib.Core.Path.{ap}
-use mathlib.Core.Bool.{not}
+use Rattle.std.proofs.lemmas.Result.{err_from_is_err_and}
+use native.Mathlib.Omega.{arith}
+use mathlib.Core.Path.{refl}
+use Rattle.meaning.proofs.Results.{refusal_stops}
+use Rattle.decoder.proofs.Deciding.{decode_refused, formed, roomy, over, decided_at, narrow}
 use Rattle.decoder.proofs.decode.Goals as goal
 
-pub returns-then-not-is_done : goal.returns-then-not-is_done
-returns-then-not-is_done c = decode_refused _ _ _ _ _ _ _ c.fault-a.ensures _ c.is_done.ensures (not-true _ (ap not c.if-not-is_done.true))
+pub returns-in_err-check : goal.returns-in_err-check
+returns-in_err-check c =
+    let p = err_from_is_err_and c.from_residual.result c.from_residual.ensures.1 in
+    rw (p.1, p.2) (decode_refused _ _ _ _ _ _ _ c.in_err-check.ensures _ refl (refusal_stops _))
 
-pub decide-requires : goal.decide-requires
-decide-requires c =
-    decode_passed _ _ _ _ _ _ _ c.fault-a.ensures _ c.is_done.ensures (not-false _ (ap not c.if-not-is_done.false))
+pub returns-then-ceiling-g : goal.returns-then-ceiling-g
+returns-then-ceiling-g c = over _ _ _ _ _ _ c.in_ok-check.ensures _ c.unknowns-g.ensures c.if-ceiling-g.true
+
+pub invariant_of-w : goal.invariant_of-w
+invariant_of-w c = record {
+  formed = formed _ _ _ _ _ _ c.in_ok-check.ensures;
+  placed = omega arith;
+  wide = refl;
+  narrow = narrow _ _ _ _ _ _ c.in_ok-check.ensures _ c.unknowns-g.ensures c.if-ceiling-g.false;
+}
+
+pub answer-requires : goal.answer-requires
+answer-requires c = roomy _ _ _ _ _ _ c.in_ok-check.ensures
 
 pub returns : goal.returns
-returns c =
-    decode_decided _ _ _ _ _ _ _ c.fault-a.ensures _ c.is_done.ensures (not-false _ (ap not c.if-not-is_done.false)) _ c.decide.ensures
+returns c = decided_at _ _ _ _ _ _ c.in_ok-check.ensures _ c.unknowns-g.ensures c.if-ceiling-g.false _ c.answer.ensures

@@ -1,11 +1,9 @@
-use mathlib.Core.Path.{◌≡◌}
-use Prim.Native.Nat.{◌-◌, ◌≤◌}
 use lib.ListN.{length}
 use Rattle.decoder.specs.Placing.{Placed, Unplaced}
 use Rattle.decoder.proofs.place.place.Given as goal
 
 abbrev pub invariant-loop-j : goal.invariant-loop-j
-invariant-loop-j l = (l.j ≤ length l.word) × (length l.vals ≡ length l.initial.vals) × Placed l.c l.w l.j l.word l.vals × Unplaced l.w l.j (length l.word) l.vals
-
-abbrev pub decreases-loop-j : goal.decreases-loop-j
-decreases-loop-j l = length l.word - l.j
+invariant-loop-j l = record {
+  placed : Placed l.t.coeffs l.t.words l.j l.w.symbols.now l.vals;
+  left : Unplaced l.t.words l.j (length l.w.symbols.now) l.vals;
+}

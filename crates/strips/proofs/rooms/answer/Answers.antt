@@ -1,50 +1,9 @@
 use Rattle.meaning.specs.Limits.{largest_n, largest_ceiling}
-use Rattle.descent.specs.Descending.{widest}
 use Rattle.system.specs.Solving.{longest_check}
-use Rattle.system.proofs.Testing.{length_longest}
-use Rattle.strips.specs.Rooms.{few_words, some_words, most_words}
-use native.Mathlib.Omega.{arith}
+use Rattle.strips.specs.Rooms.{most_wide, most_words}
+use Rattle.strips.proofs.Wide.{all_rows}
 use Rattle.strips.proofs.rooms.answer.Goals as goal
 
-pub overflow_add-words : goal.overflow_add-words
-unfolding longest_check
-overflow_add-words c = omega (arith, length_longest c.requires.formed.check)
-
-pub overflow_add-words-2 : goal.overflow_add-words-2
-unfolding widest
-overflow_add-words-2 c = omega (arith, c.requires.g_bound.1)
-
-pub overflow_mul-words : goal.overflow_mul-words
-unfolding most_words largest_n largest_ceiling longest_check
-overflow_mul-words c = omega (arith, c.requires.g_bound.2)
-
-pub few-requires : goal.few-requires
-unfolding few_words
-few-requires c = let p = c.requires in
-    record { formed = p.formed; g_bound = (p.g_bound.0, p.g_bound.1, c.if-words-le-FEW.true) }
-
-pub shape_of-out-then-words-le-FEW : goal.shape_of-out-then-words-le-FEW
-shape_of-out-then-words-le-FEW c = c.few.auto.out
-
-pub returns-then-words-le-FEW : goal.returns-then-words-le-FEW
-returns-then-words-le-FEW c = c.few.ensures
-
-pub some-requires : goal.some-requires
-unfolding some_words
-some-requires c = let p = c.requires in
-    record { formed = p.formed; g_bound = (p.g_bound.0, p.g_bound.1, c.if-words-le-SOME.true) }
-
-pub shape_of-out-then-words-le-SOME : goal.shape_of-out-then-words-le-SOME
-shape_of-out-then-words-le-SOME c = c.some.auto.out
-
-pub returns-then-words-le-SOME : goal.returns-then-words-le-SOME
-returns-then-words-le-SOME c = c.some.ensures
-
-pub most-requires : goal.most-requires
-most-requires c = record { formed = c.requires.formed; g_bound = c.requires.g_bound }
-
-pub shape_of-out : goal.shape_of-out
-shape_of-out c = c.most.auto.out
-
-pub returns : goal.returns
-returns c = c.most.ensures
+pub room-requires-2-clause-enough : goal.room-requires-2-clause-enough
+unfolding largest_n largest_ceiling longest_check most_words most_wide
+room-requires-2-clause-enough c = all_rows c.args.s.now
