@@ -1,6 +1,6 @@
 -- The answers of encode and read-back, in the values that the code has.
---     encode_fault, encode_refused, accepted     encode: its fault of form; refused, or not
---     read_fault, read_refused, reads            read-back: the same
+--     encode_refused, accepted     encode: refused for a fault of form, or not
+--     read_refused, reads          read-back: the same
 use mathlib.Core.Path.{◌≡◌, refl, sym, ap, ap₂, ◌∙◌, subst}
 use Prim.Native.Nat.{ℕ, ◌+◌, ◌-◌, ◌*◌, ◌/◌, ◌^◌, ◌≤◌}
 use native.Mathlib.Omega.{arith}
@@ -18,6 +18,8 @@ use Rattle.meaning.specs.Payload.{encoded}
 use Rattle.meaning.specs.Answers.{is_done, is_one, refuses, fault, sheet_refusals, word_refusals, call_refusals, encode_refusals, read_refusals, leaving, writing, encoding, reading_back}
 use Rattle.meaning.specs.declared.Answer.{Answer}
 use Rattle.meaning.specs.declared.Answer.TheVariants.{Done, Inconsistent}
+use Rattle.meaning.specs.Results.{whole_or_refusal}
+use Rattle.std.specs.Prelude.{Ok}
 use Rattle.meaning.proofs.Refusals.{tried_done, tried_all, none_append}
 use Rattle.meaning.proofs.Forms.{Good, good, Worded, worded, bits_back}
 use Rattle.meaning.proofs.Polar.{length-polar}
@@ -35,20 +37,6 @@ frees_le [] = omega arith
 frees_le (free ∷ ks) = omega (arith, frees_le ks)
 frees_le (frozen c m ∷ ks) = omega (arith, frees_le ks)
 
--- ---- the fault of form, by N and K as the code has them
-
-module _ (n : ℕ) (s : List ℕ) (r : ℕ) (w : List ℕ) (room k : ℕ) (ek : k ≡ frees (tab (length s / record_bytes) (rule_at s))) (m : ℕ) (em : m ≡ k - r) (a : Answer) where
-  payload_is : refuses (sheet_refusals n s r) ≡ false → m ≡ frees (rules n s) - r
-  payload_is h = em ∙ ap (λ (j : ℕ). j - r) (ek ∙ count-is n s r h)
-
-  pub encode_fault : a ≡ fault (call_refusals n s r m 1 (length s / record_bytes) w room) → a ≡ fault (encode_refusals n s r w room)
-  unfolding encode_refusals
-  encode_fault ea = ea ∙ call_same n s r m 1 (length s / record_bytes) w room (frees (rules n s) - r) (2 ^ n) (λ h. (payload_is h, size_is n s r h))
-
-  pub read_fault : a ≡ fault (call_refusals n s r (length s / record_bytes) 1 m w room) → a ≡ fault (read_refusals n s r w room)
-  unfolding read_refusals
-  read_fault ea = ea ∙ call_same n s r (length s / record_bytes) 1 m w room (2 ^ n) (frees (rules n s) - r) (λ h. (size_is n s r h, payload_is h))
-
 -- K is at most the largest N
 frees-low : (n : ℕ) (s : List ℕ) (r : ℕ) → Good n s r → frees (rules n s) ≤ 2 ^ largest_n
 frees-low n s r g = omega (arith, frees_le (rules n s), length-rules n s, pow_mono g.small)
@@ -62,22 +50,29 @@ pub record Accepted (n : ℕ) (s : List ℕ) (r : ℕ) (p out : List ℕ) : Type
   pub roomy : length s / record_bytes ≤ length out
   pub sent : (x : List ℕ) (m : ℕ) → m ≡ length x → x ≡ map bit (polar n (encoded (rules n s) r (map is_one p))) → leaving (x ++ drop m out) Done ≡ encoding n s r p out
 
-module _ (n : ℕ) (s : List ℕ) (r : ℕ) (p out : List ℕ) (a : Answer) (ea : a ≡ fault (encode_refusals n s r p (length out))) (b : Bool) (eb : b ≡ is_done a) where
-  told_is : (t : Bool) → b ≡ t → is_done (fault (encode_refusals n s r p (length out))) ≡ t
-  told_is t q = ap is_done (sym ea) ∙ sym eb ∙ q
+-- of a call by N and K as the code has them
+module _ (n : ℕ) (s : List ℕ) (r : ℕ) (p out : List ℕ) (k : ℕ) (ek : k ≡ frees (tab (length s / record_bytes) (rule_at s))) (m : ℕ) (em : m ≡ k - r) where
+  abbrev encode_call : Answer
+  encode_call = fault (call_refusals n s r m 1 (length s / record_bytes) p (length out))
 
-  pub encode_refused : b ≡ false → leaving out a ≡ encoding n s r p out
-  unfolding encoding encode_refusals
-  encode_refused q = ap (leaving out) ea ∙ sym (tried_all (leaving out) (encode_refusals n s r p (length out)) _ (told_is false q))
-
-  no-fault : b ≡ true → refuses (encode_refusals n s r p (length out)) ≡ false
-  unfolding encode_refusals sheet_refusals word_refusals
-  no-fault q = tried_done (encode_refusals n s r p (length out)) refl (told_is true q)
-
-  pub accepted : b ≡ true → Accepted n s r p out
+  encode_fault : encode_call ≡ fault (encode_refusals n s r p (length out))
   unfolding encode_refusals
-  accepted q =
-      let none = none_append (sheet_refusals n s r) _ (no-fault q) in
+  encode_fault = call_same n s r m 1 (length s / record_bytes) p (length out) (frees (rules n s) - r) (2 ^ n) (λ h. (em ∙ ap (λ (j : ℕ). j - r) (ek ∙ count-is n s r h), size_is n s r h))
+
+  pub encode_refused : (a : Answer) → a ≡ encode_call → is_done a ≡ false → leaving out a ≡ encoding n s r p out
+  unfolding encoding encode_refusals
+  encode_refused a eb q =
+      let ea = eb ∙ encode_fault in ap (leaving out) ea ∙ sym (tried_all (leaving out) (encode_refusals n s r p (length out)) _ (ap is_done (sym ea) ∙ q))
+
+  no-fault : Done ≡ fault (encode_refusals n s r p (length out)) → refuses (encode_refusals n s r p (length out)) ≡ false
+  unfolding encode_refusals sheet_refusals word_refusals
+  no-fault ea = tried_done (encode_refusals n s r p (length out)) refl (ap is_done (sym ea))
+
+  pub accepted : Done ≡ encode_call → Accepted n s r p out
+  unfolding encode_refusals
+  accepted eb =
+      let ea = eb ∙ encode_fault in
+      let none = none_append (sheet_refusals n s r) _ (no-fault ea) in
       let g = good n s r none.0 in
       let w = worded _ 1 _ p (length out) none.1 in
       let size : length s / record_bytes ≡ 2 ^ n = records_in (length s) (2 ^ n) g.long in
@@ -89,7 +84,7 @@ module _ (n : ℕ) (s : List ℕ) (r : ℕ) (p out : List ℕ) (a : Answer) (ea 
         roomy = omega (arith, size, w.roomy);
         sent = λ x m em ex.
             ap (λ (j : ℕ). leaving (x ++ drop j out) Done) em ∙ ap (λ (l : List ℕ). leaving (l ++ drop (length l) out) Done) ex
-            ∙ sym (encode_is n s r p out (no-fault q));
+            ∙ sym (encode_is n s r p out (no-fault ea));
       }
 
 -- ---- read-back
@@ -97,24 +92,30 @@ module _ (n : ℕ) (s : List ℕ) (r : ℕ) (p out : List ℕ) (a : Answer) (ea 
 pub record Read (n : ℕ) (s : List ℕ) (r k : ℕ) (w out : List ℕ) : Type 0 where
   pub enough : r ≤ k
   pub fits : k ≤ 2 ^ largest_n
-  pub low : length w ≤ 2 ^ largest_n
-  pub long : length w ≡ 2 ^ n
+  pub low : length s / record_bytes ≤ 2 ^ largest_n
+  pub long : length s / record_bytes ≡ 2 ^ n
   pub roomy : k - r ≤ length out
   pub legible : (j : ℕ) → j ≡ k → Legible n s r w j
-  pub told : (out' : List ℕ) (b : Bool) (v : Answer) → Extracted n s r w (k - r) out out' b → v ≡ pick b Done (Inconsistent 0 0) → leaving out' v ≡ reading_back n s r w out
+  pub told : (out' : List ℕ) (b : Bool) → Extracted n s r w (k - r) out out' b → leaving out' (whole_or_refusal (Ok b)) ≡ reading_back n s r w out
 
-module _ (n : ℕ) (s : List ℕ) (r : ℕ) (w out : List ℕ) (a : Answer) (ea : a ≡ fault (read_refusals n s r w (length out))) (b : Bool) (eb : b ≡ is_done a) where
-  read_told : (t : Bool) → b ≡ t → is_done (fault (read_refusals n s r w (length out))) ≡ t
-  read_told t q = ap is_done (sym ea) ∙ sym eb ∙ q
+-- of a call by N and K as the code has them
+module _ (n : ℕ) (s : List ℕ) (r : ℕ) (w out : List ℕ) (k : ℕ) (ek : k ≡ frees (tab (length s / record_bytes) (rule_at s))) (m' : ℕ) (em : m' ≡ k - r) where
+  abbrev read_call : Answer
+  read_call = fault (call_refusals n s r (length s / record_bytes) 1 m' w (length out))
 
-  pub read_refused : b ≡ false → leaving out a ≡ reading_back n s r w out
+  read_fault : read_call ≡ fault (read_refusals n s r w (length out))
+  unfolding read_refusals
+  read_fault = call_same n s r (length s / record_bytes) 1 m' w (length out) (2 ^ n) (frees (rules n s) - r) (λ h. (size_is n s r h, em ∙ ap (λ (j : ℕ). j - r) (ek ∙ count-is n s r h)))
+
+  pub read_refused : (a : Answer) → a ≡ read_call → is_done a ≡ false → leaving out a ≡ reading_back n s r w out
   unfolding reading_back read_refusals
-  read_refused q = ap (leaving out) ea ∙ sym (tried_all (leaving out) (read_refusals n s r w (length out)) _ (read_told false q))
+  read_refused a eb q =
+      let ea = eb ∙ read_fault in ap (leaving out) ea ∙ sym (tried_all (leaving out) (read_refusals n s r w (length out)) _ (ap is_done (sym ea) ∙ q))
 
-  module _ (q : b ≡ true) (k : ℕ) (ek : k ≡ frees (tab (length s / record_bytes) (rule_at s))) where
+  module _ (eb : Done ≡ read_call) where
     none : refuses (read_refusals n s r w (length out)) ≡ false
     unfolding read_refusals sheet_refusals word_refusals
-    none = tried_done (read_refusals n s r w (length out)) refl (read_told true q)
+    none = tried_done (read_refusals n s r w (length out)) refl (ap is_done (sym (eb ∙ read_fault)))
 
     sheet : Good n s r
     unfolding read_refusals
@@ -124,9 +125,12 @@ module _ (n : ℕ) (s : List ℕ) (r : ℕ) (w out : List ℕ) (a : Answer) (ea 
     unfolding read_refusals
     word = worded (2 ^ n) 1 (frees (rules n s) - r) w (length out) (none_append (sheet_refusals n s r) _ none).1
 
+    size : length s / record_bytes ≡ 2 ^ n
+    size = records_in (length s) (2 ^ n) sheet.long
+
     count : k ≡ frees (rules n s)
     unfolding rules
-    count = ek ∙ ap (λ (m : ℕ). frees (tab m (rule_at s))) (records_in (length s) (2 ^ n) sheet.long)
+    count = ek ∙ ap (λ (m : ℕ). frees (tab m (rule_at s))) size
 
     word_long : length w ≡ 2 ^ n
     word_long = word.long
@@ -162,7 +166,7 @@ module _ (n : ℕ) (s : List ℕ) (r : ℕ) (w out : List ℕ) (a : Answer) (ea 
         let lf = length-free (rules n s) us (length-us ∙ sym (length-rules n s)) in
         length-map (take (frees (rules n s) - r) (free_bits (rules n s) us)) bit ∙ simp length-take (omega (arith, count))
 
-    replied : (out' : List ℕ) (t : Bool) → Extracted n s r w (k - r) out out' t → leaving out' (pick t Done (Inconsistent 0 0)) ≡ reading_back n s r w out
+    replied : (out' : List ℕ) (t : Bool) → Extracted n s r w (k - r) out out' t → leaving out' (whole_or_refusal (Ok t)) ≡ reading_back n s r w out
     unfolding payload_of
     replied out' true x =
         let lp = length_payload in
@@ -175,9 +179,9 @@ module _ (n : ℕ) (s : List ℕ) (r : ℕ) (w out : List ℕ) (a : Answer) (ea 
         record {
           enough = omega (arith, count, sheet.roomy);
           fits = omega (arith, count, frees-low n s r sheet);
-          low = omega (arith, word_long, pow_mono sheet.small);
-          long = word_long;
+          low = omega (arith, size, pow_mono sheet.small);
+          long = size;
           roomy = omega (arith, count, word.roomy);
           legible = λ j ej. record { bits = bits_back w word.symbols; long = word_long; behind = whole j ej };
-          told = λ out' t v x e. ap (leaving out') e ∙ replied out' t x;
+          told = replied;
         }

@@ -12,6 +12,7 @@ use mathlib.Core.List.{List, [], ◌∷◌, ◌++◌, map, map-append, append_as
 use lib.ListN.{length, take, drop, get_or, set, replicate, length-set, length-map, length-take, length-replicate, drop_of_length-le}
 use lib.Seq.{drop-cons, take-suc-set, take_all}
 use lib.Dec.{eqb}
+use Rattle.std.specs.Prelude.{Option, Some, None, MatchOption, IsSome}
 use Rattle.bits.specs.Vectors.{◌⊕◌, bit, tab, odd}
 use Rattle.bits.proofs.Tests.{length-tab}
 use Rattle.meaning.specs.Limits.{mask_bytes}
@@ -42,28 +43,30 @@ module _ (s : List ℕ) (size : ℕ) where
 
   -- ---- the vector that the rules give
 
-  module _ (f : List Bool) where
-    pub record Placing (u v : List ℕ) (next i : ℕ) : Type 0 where
+  module _ (f : List ℕ) where
+    pub record Placing (u v rest : List ℕ) (i : ℕ) : Type 0 where
       pub low : i ≤ size
       pub long : length u ≡ size
       pub wide : length v ≡ mask_words
       pub bits : AreBits (take i u)
       pub holds : Holds v (map is_one (take i u))
-      pub room : next + frees (drop i ks) ≡ length f
-      pub left : map is_one (take i u) ++ place (drop i ks) (map is_one (take i u)) (drop next f) ≡ place ks [] f
+      pub ones : AreBits rest
+      pub room : frees (drop i ks) ≡ length rest
+      pub left : map is_one (take i u) ++ place (drop i ks) (map is_one (take i u)) (map is_one rest) ≡ place ks [] (map is_one f)
 
-    pub starts : (u : List ℕ) → length u ≡ size → length f ≡ frees ks → Placing u (replicate mask_words 0) 0 0
-    starts u l e = record {
+    pub starts : (u v rest : List ℕ) → length u ≡ size → v ≡ replicate mask_words 0 → rest ≡ f → AreBits f → length f ≡ frees ks → Placing u v rest 0
+    starts u v rest l ev er a e = record {
       low = omega arith;
       long = l;
-      wide = length-replicate mask_words 0;
+      wide = ap length ev ∙ length-replicate mask_words 0;
       bits = refl;
-      holds = holds-none mask_words;
-      room = omega arith;
-      left = refl;
+      holds = rw ev (holds-none mask_words);
+      ones = rw er a;
+      room = rw er (sym e);
+      left = rw er;
     }
 
-    module _ (u v : List ℕ) (next i : ℕ) (h : i < size) (p : Placing u v next i) where
+    module _ (u v rest : List ℕ) (i : ℕ) (h : i < size) (p : Placing u v rest i) where
       abbrev c : List Bool
       c = map is_one (take i u)
 
@@ -71,10 +74,10 @@ module _ (s : List ℕ) (size : ℕ) where
       length_c = length-map (take i u) is_one ∙ simp length-take (omega (arith, p.long))
 
       -- the value x of a bit b at position i, with what is left
-      goes : size ≤ 8 * mask_bytes → (x : ℕ) (b : Bool) (next' : ℕ) → x ≡ bit b → place (drop i ks) c (drop next f) ≡ b ∷ place (drop (suc i) ks) (c ++ (b ∷ [])) (drop next' f)
-          → next' + frees (drop (suc i) ks) ≡ length f → Placing (set u i x) (put v i x) next' (i + 1)
+      goes : size ≤ 8 * mask_bytes → (x : ℕ) (b : Bool) (rest' : List ℕ) → x ≡ bit b → place (drop i ks) c (map is_one rest) ≡ b ∷ place (drop (suc i) ks) (c ++ (b ∷ [])) (map is_one rest')
+          → AreBits rest' → frees (drop (suc i) ks) ≡ length rest' → Placing (set u i x) (put v i x) rest' (i + 1)
       unfolding mask_bytes
-      goes small x b next' ex el er =
+      goes small x b rest' ex el a er =
           let hu : i < length u = omega (arith, p.long) in
           let t : take (i + 1) (set u i x) ≡ take i u ++ (x ∷ []) = rw (add-one i) (take-suc-set u i x hu) in
           let cb : map is_one (take (i + 1) (set u i x)) ≡ c ++ (b ∷ []) = ap (map is_one) t ∙ map-append is_one (take i u) (x ∷ []) ∙ ap (λ (y : Bool). c ++ (y ∷ [])) (ap is_one ex ∙ one_bit b) in
@@ -84,37 +87,42 @@ module _ (s : List ℕ) (size : ℕ) where
             wide = put-length v i x ∙ p.wide;
             bits = ap (map bit) cb ∙ map-append bit c (b ∷ []) ∙ ap₂ {C = List ℕ} (λ (l : List ℕ) (y : ℕ). l ++ (y ∷ [])) p.bits (sym ex) ∙ sym t;
             holds = rw (cb, ex) (holds_more v c b i (sym length_c) (omega (arith, p.wide)) p.holds);
+            ones = a;
             room = rw (add-one i) er;
-            left = rw (cb, add-one i) (append_assoc c (b ∷ []) (place (drop (suc i) ks) (c ++ (b ∷ [])) (drop next' f)) ∙ ap (λ (l : List Bool). c ++ l) (sym el) ∙ p.left);
+            left = rw (cb, add-one i) (append_assoc c (b ∷ []) (place (drop (suc i) ks) (c ++ (b ∷ [])) (map is_one rest')) ∙ ap (λ (l : List Bool). c ++ l) (sym el) ∙ p.left);
           }
         where
           one_bit : (b : Bool) → is_one (bit b) ≡ b
           one_bit true = refl
           one_bit false = refl
 
-      pub free-room : eqb (byte s i 0) 0 ≡ true → next < length f
+      -- at a free position a bit is left
+      pub free-room : eqb (byte s i 0) 0 ≡ true → 0 < length rest
       free-room e = omega (arith, p.room, frees-free s size i h refl e)
 
-      pub free_goes : size ≤ 8 * mask_bytes → eqb (byte s i 0) 0 ≡ true → (x : ℕ) → x ≡ bit (get_or f next false) → Placing (set u i x) (put v i x) (next + 1) (i + 1)
+      pub free_goes : size ≤ 8 * mask_bytes → eqb (byte s i 0) 0 ≡ true → (x : ℕ) (rest' : List ℕ) → rest ≡ x ∷ rest' → Placing (set u i x) (put v i x) rest' (i + 1)
       unfolding place
-      free_goes small e x ex =
-          goes small x (get_or f next false) (next + 1) ex
-          (rw (rules-at s size i h, rule_free s i refl e, drop-cons f next false (free-room e), add-one next))
-          (omega (arith, p.room, frees-free s size i h refl e))
+      free_goes small e x rest' er =
+          let ones : AreBits (x ∷ rest') = rw er at p.ones in
+          goes small x (is_one x) rest' (sym (ap (λ (l : List ℕ). get_or l 0 0) ones))
+          (rw (rules-at s size i h, rule_free s i refl e, er))
+          (ap (drop 1) ones)
+          (omega (arith, p.room, frees-free s size i h refl e, ap length er))
 
-      pub frozen_goes : size ≤ 8 * mask_bytes → eqb (byte s i 0) 0 ≡ false → (x : ℕ) → x ≡ bit (eqb (byte s i 1) 1 ⊕ odd (mask s i) (held v)) → Placing (set u i x) (put v i x) next (i + 1)
+      pub frozen_goes : size ≤ 8 * mask_bytes → eqb (byte s i 0) 0 ≡ false → (x : ℕ) → x ≡ bit (eqb (byte s i 1) 1 ⊕ odd (mask s i) (held v)) → Placing (set u i x) (put v i x) rest (i + 1)
       unfolding place
       frozen_goes small e x ex =
           let o : odd (mask s i) (held v) ≡ odd (mask s i) c = odd-held (mask s i) v c p.holds in
-          goes small x (eqb (byte s i 1) 1 ⊕ odd (mask s i) c) next (ex ∙ ap (λ (y : Bool). bit (eqb (byte s i 1) 1 ⊕ y)) o)
+          goes small x (eqb (byte s i 1) 1 ⊕ odd (mask s i) c) rest (ex ∙ ap (λ (y : Bool). bit (eqb (byte s i 1) 1 ⊕ y)) o)
           (rw (rules-at s size i h, rule_frozen s i refl e))
+          p.ones
           (omega (arith, p.room, frees-frozen s size i h refl e))
 
-    pub placed : (u v : List ℕ) (next i : ℕ) → size ≤ i → Placing u v next i → u ≡ map bit (place ks [] f)
+    pub placed : (u v rest : List ℕ) (i : ℕ) → size ≤ i → Placing u v rest i → u ≡ map bit (place ks [] (map is_one f))
     unfolding place
-    placed u v next i h p =
+    placed u v rest i h p =
         let t : take i u ≡ u = take_all i u (omega (arith, p.long)) in
-        sym (p.bits ∙ t) ∙ ap (map bit) (sym (append-nil (map is_one (take i u))) ∙ ap (λ (l : List Rule). map is_one (take i u) ++ place l (map is_one (take i u)) (drop next f)) (sym (drop_of_length-le ks {i = i} (omega (arith, length-tab size (rule_at s))))) ∙ p.left)
+        sym (p.bits ∙ t) ∙ ap (map bit) (sym (append-nil (map is_one (take i u))) ∙ ap (λ (l : List Rule). map is_one (take i u) ++ place l (map is_one (take i u)) (map is_one rest)) (sym (drop_of_length-le ks {i = i} (omega (arith, length-tab size (rule_at s))))) ∙ p.left)
 
   -- ---- the free bits of a vector
 
@@ -162,11 +170,18 @@ module _ (s : List ℕ) (size : ℕ) where
         let full : length fr ≤ next = omega (arith, p.room, ap frees none) in
         sym (take_all next fr full) ∙ sym (append-nil (take next fr)) ∙ ap (λ (l : List Rule). take next fr ++ map bit (free_bits l (drop i us))) (sym none) ∙ p.left
 
--- ---- the bits that are put in
-
--- a free bit handed in
-pub free-bit : (l : List ℕ) (k : ℕ) → AreBits l → k < length (map is_one l) → get_or l k 0 ≡ bit (get_or (map is_one l) k false)
-free-bit l k a h = is-bit l k a (omega (arith, length-map l is_one)) ∙ ap bit (sym (get_or_map is_one l k 0))
-
+-- a bit as a byte
 pub small : (x : ℕ) (b : Bool) → x ≡ bit b → x < 2
 small x b e = omega (arith, bit-small b)
+
+-- the first of bytes that are bits
+first : (x : ℕ) (l : List ℕ) → AreBits (x ∷ l) → x ≡ bit (is_one x)
+first x l a = sym (ap (λ (m : List ℕ). get_or m 0 0) a)
+
+pub first-small : (m l : List ℕ) (x : ℕ) → AreBits m → m ≡ x ∷ l → x < 2
+first-small m l x a e = small x (is_one x) (first x l (rw e at a))
+
+-- what is not empty has a first
+pub left-is : {S : Type 0} (T : Type 0) (o : Option S) (Q : S → Type 0) (l : List ℕ) → 0 < length l → MatchOption o ((length l ≡ 0) × T) Q → IsSome o
+left-is T None Q l h m = absurd (omega (arith, m.0))
+left-is T (Some x) Q l h m = refl

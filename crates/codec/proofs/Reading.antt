@@ -7,14 +7,18 @@ use mathlib.Core.Path.{◌≡◌, refl, sym, ap, ap₂, ◌∙◌, subst}
 use Prim.Native.Nat.{ℕ, zero, suc, ◌-◌, ◌*◌, ◌^◌, ◌≤◌}
 use native.Mathlib.Omega.{arith}
 use mathlib.Core.Bool.{Bool, true, false, ◌&&◌, true≢false}
-use mathlib.Core.List.{List, [], ◌∷◌, ◌++◌, map, append-nil}
-use lib.ListN.{length, take, drop, length-append, length-map, length-take, drop_of_length-le}
-use lib.Seq.{take_all, take-append_seam}
+use mathlib.Core.List.{List, [], ◌∷◌, ◌++◌, map}
+use lib.ListN.{replicate, length-replicate, length, take, drop, length-map, length-take}
+use lib.Dec.{eqb}
+use Rattle.std.specs.Prelude.{IsTrue, ◌↔◌}
+use Rattle.std.specs.Cmp.Lexicographic.{pointwise}
+use Rattle.std.proofs.lemmas.Bool.Decides.{Decides-eqb}
+use Rattle.std.proofs.lemmas.Slice.Eq.{slice_eq-Decides}
 use Rattle.bits.specs.Vectors.{bit, tab}
 use Rattle.bits.proofs.Tests.{length-tab}
-use Rattle.meaning.specs.Limits.{record_bytes, mask_bytes, leads}
+use Rattle.meaning.specs.Limits.{mask_bytes, leads}
 use Rattle.meaning.specs.Transform.{polar}
-use Rattle.meaning.specs.Sheet.{Rule, rule_at, rules, frees}
+use Rattle.meaning.specs.Sheet.{Rule, rule_at, rules}
 use Rattle.meaning.specs.Check.{keeps_rules, free_bits, divides, keeps}
 use Rattle.meaning.specs.Payload.{place}
 use Rattle.meaning.specs.Answers.{is_one}
@@ -25,8 +29,21 @@ use Rattle.polar.specs.Bytes.{transformed}
 use Rattle.polar.proofs.Transforming.{transformed-is, polar-bytes}
 use Rattle.division.specs.Division.{dividing}
 use Rattle.division.proofs.Checking.{known-listed, dividing-is}
-use Rattle.codec.specs.Ready.{AreBits, Whole, Extracted, Tells}
+use Rattle.codec.specs.Ready.{AreBits, Placeable, Whole, Extracted}
 use Rattle.codec.proofs.Sending.{bits_are}
+
+-- ---- what is lent of an output, and of a room for all positions
+
+pub taken_for : (k : ℕ) (l : List ℕ) → k ≤ length l → length (take k l) ≡ k
+taken_for k l h = simp length-take (omega arith)
+
+pub room_for : (k : ℕ) → k ≤ 8 * mask_bytes → length (take k (replicate {A = ℕ} (8 * mask_bytes) 0)) ≡ k
+room_for k h = taken_for k (replicate (8 * mask_bytes) 0) (rw length-replicate h)
+
+pub low_in_room : (m k r : ℕ) → m ≡ k - r → k ≤ 8 * mask_bytes → m ≤ length (take k (replicate {A = ℕ} (8 * mask_bytes) 0))
+low_in_room m k r e h = omega (arith, room_for k h)
+
+-- ---- bits
 
 take-map : {A B : Type 0} (f : A → B) (i : ℕ) (l : List A) → take i (map f l) ≡ map f (take i l)
 take-map f zero l = refl
@@ -35,11 +52,10 @@ take-map {B = B} f (suc i) (x ∷ l) = ap {B = List B} (λ t. f x ∷ t) (take-m
 
 -- ---- the vector behind a word
 
-pub unsent : (n : ℕ) (w u l z : List ℕ) → AreBits w → length w ≡ 2 ^ n → length u ≡ 2 ^ n → l ≡ take (length w) w ++ drop (length w) u → z ≡ transformed n l → z ≡ map bit (polar n (map is_one w))
-unsent n w u l z a lw lu el ez =
-    let e : l ≡ w = el ∙ ap₂ {C = List ℕ} ◌++◌ (take_all (length w) w (omega arith)) (drop_of_length-le u {i = length w} (omega arith)) ∙ append-nil w in
+pub unsent : (n : ℕ) (w : List ℕ) → AreBits w → length w ≡ 2 ^ n → transformed n w ≡ map bit (polar n (map is_one w))
+unsent n w a lw =
     let lo : length (map is_one w) ≡ 2 ^ n = length-map w is_one ∙ lw in
-    ez ∙ ap (transformed n) (e ∙ sym a) ∙ transformed-is n (map bit (map is_one w)) (length-map (map is_one w) bit ∙ lo) ∙ polar-bytes n (map is_one w) lo
+    ap (transformed n) (sym a) ∙ transformed-is n (map bit (map is_one w)) (length-map (map is_one w) bit ∙ lo) ∙ polar-bytes n (map is_one w) lo
 
 -- u, the vector behind a word, as bytes
 module _ (n : ℕ) (s : List ℕ) (w u : List ℕ) (lw : length w ≡ 2 ^ n) (e : u ≡ map bit (polar n (map is_one w))) where
@@ -60,16 +76,11 @@ module _ (n : ℕ) (s : List ℕ) (w u : List ℕ) (lw : length w ≡ 2 ^ n) (e 
     pub nothing : b ≡ false → Extracted n s r w m out out b
     nothing t = record { tells = tells; leaves = rw t }
 
-    pub something : b ≡ true → (f out' : List ℕ) → f ≡ map bit (free_bits (tab (length u) (rule_at s)) (map is_one u)) → m ≤ length f
-        → out' ≡ take (length (take m f)) (take m f) ++ drop (length (take m f)) out → Extracted n s r w m out out' b
-    something t f out' ef lm eo =
+    pub something : b ≡ true → (f out' : List ℕ) → f ≡ map bit (free_bits (tab (length u) (rule_at s)) (map is_one u)) → out' ≡ take m f ++ drop m out → Extracted n s r w m out out' b
+    something t f out' ef eo =
         let fb : List Bool = free_bits (rules n s) (polar n (map is_one w)) in
-        let lf : length (take m f) ≡ m = simp length-take (omega arith) in
         let es : take m f ≡ map bit (take m fb) = ap (take m) (ef ∙ ap₂ (λ (l : List Rule) (x : List Bool). map bit (free_bits l x)) rules_u back) ∙ take-map bit m fb in
-        record {
-          tells = tells;
-          leaves = rw t (eo ∙ ap₂ {C = List ℕ} (λ (x : List ℕ) (j : ℕ). x ++ drop j out) (take_all (length (take m f)) (take m f) (omega arith) ∙ es) lf);
-        }
+        record { tells = tells; leaves = rw t (eo ∙ ap {B = List ℕ} (λ x. x ++ drop m out) es) }
 
 -- ---- whether it keeps the rules
 
@@ -90,11 +101,11 @@ module _ (s : List ℕ) (r : ℕ) (u : List ℕ) (k : ℕ) (ok : Whole s r u k) 
     pub free-bits : AreBits f
     free-bits = subst (λ (l : List ℕ). AreBits l) (sym ef) (bits_are (free_bits ks us))
 
-    pub place_again : ((length s ≡ length u * record_bytes) × (length u ≤ 8 * mask_bytes)) × (AreBits f × (length f ≡ frees ks))
-    place_again = ((ok.long, ok.within), (free-bits, ap length ef ∙ length-map (free_bits ks us) bit ∙ length-free ks us length-us))
+    pub place_again : Placeable s (length u) f
+    place_again = record { long = ok.long; within = ok.within; bits = free-bits; count = ap length ef ∙ length-map (free_bits ks us) bit ∙ length-free ks us length-us }
 
     -- b tells whether the free bits give the vector again
-    module _ (b : Bool) (tell : Tells b (u ≡ map bit (place ks [] (map is_one f)))) where
+    module _ (b : Bool) (tell : IsTrue b ↔ (u ≡ map bit (place ks [] (map is_one f)))) where
       again : map bit (place ks [] (map is_one f)) ≡ map bit (place ks [] (free_bits ks us))
       again = ap (λ (x : List Bool). map bit (place ks [] x)) frees_back
 
@@ -104,31 +115,24 @@ module _ (s : List ℕ) (r : ℕ) (u : List ℕ) (k : ℕ) (ok : Whole s r u k) 
       broken e = go (keeps_rules ks us us) refl
         where
           go : (t : Bool) → keeps_rules ks us us ≡ t → false ≡ t && divides r (leads r ++ free_bits ks us)
-          go true q = absurd (true≢false (sym (tell.no (sym ok.bits ∙ ap (map bit) (place_unique ks [] us ok.ordered length-us q) ∙ sym again)) ∙ e))
+          go true q = absurd (true≢false (sym (tell.1 (sym ok.bits ∙ ap (map bit) (place_unique ks [] us ok.ordered length-us q) ∙ sym again)) ∙ e))
           go false q = refl
 
       -- the same vector: every rule is kept, and the check decides
       pub held : b ≡ true → (d : Bool) → d ≡ dividing r f → d ≡ keeps ks r us
       unfolding keeps
       held e d ed =
-          let same : us ≡ place ks [] (free_bits ks us) = ap (map is_one) (tell.yes e ∙ again) ∙ ones_back (place ks [] (free_bits ks us)) in
+          let same : us ≡ place ks [] (free_bits ks us) = ap (map is_one) (tell.0 e ∙ again) ∙ ones_back (place ks [] (free_bits ks us)) in
           let kept : keeps_rules ks us us ≡ true = subst (λ (x : List Bool). keeps_rules ks x x ≡ true) (sym same) (keeps-place ks [] (free_bits ks us) ok.ordered) in
           rw kept (ed ∙ dividing-is r f (known-listed r ok.check) ∙ ap (λ (x : List Bool). divides r (leads r ++ x)) frees_back)
 
 -- ---- the comparison, with a part l of the room as long as u
 
 module _ (s f u l : List ℕ) (el : length l ≡ length u) where
-  pub lent : ((length s ≡ length u * record_bytes) × (length u ≤ 8 * mask_bytes)) × (AreBits f × (length f ≡ frees (tab (length u) (rule_at s))))
-      → ((length s ≡ length l * record_bytes) × (length l ≤ 8 * mask_bytes)) × (AreBits f × (length f ≡ frees (tab (length l) (rule_at s))))
+  pub lent : Placeable s (length u) f → Placeable s (length l) f
   lent h = rw el h
 
-  -- x is written there, before v
-  pub within : (x v : List ℕ) → length x ≡ length l → length u ≤ length (x ++ v)
-  within x v lx = omega (arith, length-append x v, el, lx)
-
-  pub compared : (x v : List ℕ) → length x ≡ length l → x ≡ map bit (place (tab (length l) (rule_at s)) [] (map is_one f)) → (b : Bool) → (b ≡ true → u ≡ take (length u - 0) (x ++ v)) → (u ≡ take (length u - 0) (x ++ v) → b ≡ true)
-      → Tells b (u ≡ map bit (place (tab (length u) (rule_at s)) [] (map is_one f)))
-  compared x v lx ex b p q =
-      let lu : length u - 0 ≡ length x = omega (arith, el, lx) in
-      let e : take (length u - 0) (x ++ v) ≡ map bit (place (tab (length u) (rule_at s)) [] (map is_one f)) = rw lu (take-append_seam x v) ∙ ex ∙ ap (λ (m : ℕ). map bit (place (tab m (rule_at s)) [] (map is_one f))) el in
-      record { yes = λ t. p t ∙ e; no = λ h. q (h ∙ sym e) }
+  -- x is written there
+  pub compared : (x : List ℕ) → x ≡ map bit (place (tab (length l) (rule_at s)) [] (map is_one f)) → (b : Bool) → b ≡ pointwise eqb u x
+      → IsTrue b ↔ (u ≡ map bit (place (tab (length u) (rule_at s)) [] (map is_one f)))
+  compared x ex b eb = rw (ex ∙ ap (λ (m : ℕ). map bit (place (tab m (rule_at s)) [] (map is_one f))) el) at (slice_eq-Decides Decides-eqb u x b eb)

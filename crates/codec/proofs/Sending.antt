@@ -23,7 +23,7 @@ use Rattle.polar.specs.Bytes.{transformed}
 use Rattle.polar.proofs.Transforming.{transformed-is, polar-bytes}
 use Rattle.division.specs.Division.{appending}
 use Rattle.division.proofs.Checking.{fitting-is, appending-is}
-use Rattle.codec.specs.Ready.{AreBits, Encodable}
+use Rattle.codec.specs.Ready.{AreBits, Placeable, Encodable}
 
 -- ---- the vector that the rules give, and its transform
 
@@ -42,15 +42,14 @@ module _ (n : ℕ) (s : List ℕ) (r : ℕ) (p : List ℕ) (k : ℕ) (ok : Encod
       e ∙ appending-is r p f₀ (fitting-is (length p) r (length f₀) ok.check (l ∙ ok.sum)) ∙ ap (λ (q : List ℕ). q ++ map bit c) (sym ok.bits) ∙ sym (map-append bit (map is_one p) c)
 
   module _ (x f : List ℕ) (lx : length x ≡ 2 ^ n) (lf : length f ≡ k) (e : f ≡ map bit (map is_one p ++ remainder (poly r) (leads r ++ map is_one p))) where
-    pub place_ready : ((length s ≡ length x * record_bytes) × (length x ≤ 8 * mask_bytes)) × (AreBits f × (length f ≡ frees (tab (length x) (rule_at s))))
+    pub place_ready : Placeable s (length x) f
     unfolding rules
-    place_ready = (
-      (ok.long ∙ ap (λ (m : ℕ). m * record_bytes) (sym lx), within (length x) lx),
-      (
-        subst (λ (l : List ℕ). AreBits l) (sym e) (bits_are (map is_one p ++ remainder (poly r) (leads r ++ map is_one p))),
-        lf ∙ ok.count ∙ ap (λ (m : ℕ). frees (tab m (rule_at s))) (sym lx),
-      ),
-    )
+    place_ready = record {
+      long = ok.long ∙ ap (λ (m : ℕ). m * record_bytes) (sym lx);
+      within = within (length x) lx;
+      bits = subst (λ (l : List ℕ). AreBits l) (sym e) (bits_are (map is_one p ++ remainder (poly r) (leads r ++ map is_one p)));
+      count = lf ∙ ok.count ∙ ap (λ (m : ℕ). frees (tab m (rule_at s))) (sym lx);
+    }
 
     pub sent : (y z : List ℕ) → y ≡ map bit (place (tab (length x) (rule_at s)) [] (map is_one f)) → z ≡ transformed n y → z ≡ map bit (polar n (encoded (rules n s) r (map is_one p)))
     unfolding encoded rules

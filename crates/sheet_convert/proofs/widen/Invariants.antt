@@ -1,4 +1,3 @@
-use Prim.Native.Nat.{◌-◌}
 use lib.ListN.{length}
 use Rattle.meaning.specs.Limits.{layout, old_layout}
 use Rattle.sheet_convert.specs.Conversion.{wide_at}
@@ -7,6 +6,3 @@ use Rattle.sheet_convert.proofs.widen.Given as goal
 
 abbrev pub invariant-loop-p : goal.invariant-loop-p
 invariant-loop-p l = Filling (wide_at old_layout layout l.old) (length l.initial.sheet) l.sheet l.p
-
-abbrev pub decreases-loop-p : goal.decreases-loop-p
-decreases-loop-p l = length l.initial.sheet - l.p

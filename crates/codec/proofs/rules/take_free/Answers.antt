@@ -1,22 +1,12 @@
 use mathlib.Core.Path.{refl, sym, ◌∙◌}
-use native.Mathlib.Omega.{arith}
 use lib.ListN.{length-set}
 use Rattle.codec.proofs.Placing.{take-room, free_taken, frozen_passed, taken}
 use Rattle.codec.proofs.rules.take_free.Goals as goal
 use Rattle.codec.proofs.rules.take_free.Goals.{then-is_free, else-is_free}
 
-pub loop-i-init : goal.loop-i-init
-loop-i-init c = (refl, record { low = omega arith; room = let e = c.requires.free_len in omega arith; left = refl })
-
-pub bounds-u-i : goal.bounds-u-i
-bounds-u-i c = c.loop-i-test.true
-
 pub bounds-free-next : goal.bounds-free-next
 bounds-free-next c =
     take-room _ _ _ refl c.requires.sheet_len.1 _ _ _ c.loop-i-test.true c.loop-i.invariant.1 (sym c.is_free.ensures ∙ c.if-is_free.true)
-
-pub overflow_add-next : goal.overflow_add-next
-overflow_add-next c = omega (arith, take-room _ _ _ refl c.requires.sheet_len.1 _ _ _ c.loop-i-test.true c.loop-i.invariant.1 (sym c.is_free.ensures ∙ c.if-is_free.true))
 
 pub loop-i-preserved : goal.loop-i-preserved
 loop-i-preserved c =
@@ -27,9 +17,6 @@ loop-i-preserved c =
           (rw w.free-is (length-set c.loop-i.free _ _ ∙ inv.0), rw (w.free-is, w.next-is) (free_taken _ _ _ refl c.requires.sheet_len.1 _ _ _ c.loop-i-test.true inv.1 e))
       | else-is_free w ↦ (rw w.free-is inv.0, rw (w.free-is, w.next-is) (frozen_passed _ _ _ refl c.requires.sheet_len.1 _ _ _ c.loop-i-test.true inv.1 (sym c.is_free.ensures ∙ w.if-is_free.false)))
     ]
-
-pub shape_of-free : goal.shape_of-free
-shape_of-free c = c.loop-i.invariant.0
 
 pub returns : goal.returns
 returns c = taken _ _ _ _ c.loop-i.next c.loop-i.i c.loop-i-test.false c.loop-i.invariant.1
