@@ -33,10 +33,8 @@ take_blank (suc a) zero h = absurd (omega arith)
 take_blank (suc a) (suc b) h = ap {B = List ℕ} (λ t. 255 ∷ t) (take_blank a b (omega arith))
 
 -- the start of three blank strips
-pub part_blank : (k size : ℕ) (f : List ℕ) → f ≡ replicate (3 * strip_width) 255 → size ≤ strip_width → size ≡ k → take (3 * size - 0) (drop 0 f) ≡ replicate (3 * k) 255
-part_blank k size f e low q =
-    let m : 3 * size - 0 ≡ 3 * k = omega arith in
-    ap₂ {C = List ℕ} take m e ∙ take_blank (3 * k) (3 * strip_width) (omega arith)
+pub part_blank : (k size : ℕ) (f : List ℕ) → f ≡ replicate (3 * strip_width) 255 → size ≤ strip_width → size ≡ k → take (3 * size) f ≡ replicate (3 * k) 255
+part_blank k size f e low q = ap₂ {C = List ℕ} take (let m : 3 * size ≡ 3 * k = omega arith in m) e ∙ take_blank (3 * k) (3 * strip_width) (omega arith)
 
 -- ---- the strips. x, y, z have their W places
 

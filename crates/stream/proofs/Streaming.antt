@@ -2,16 +2,15 @@
 --     record_long, records-wide     each record has its bytes
 --     short, room       the test for room
 --     streamed          what the call answers
---     shape_alone, choice_alone, words-all     the records, case by case
+--     alone, words-all     the records, by what the sheet and the choice set
 use mathlib.Core.Path.{◌≡◌, refl, sym, ap, ap₂, ◌∙◌}
 use mathlib.Core.Logic.{◌⊎◌, inl, inr}
-use Prim.Native.Nat.{ℕ, ◌+◌, ◌-◌, ◌*◌, ◌/◌, ◌^◌, ◌≤◌, ◌<◌}
+use Prim.Native.Nat.{ℕ, ◌+◌, ◌*◌, ◌/◌, ◌^◌, ◌≤◌, ◌<◌}
 use native.Mathlib.Omega.{arith}
 use native.Mathlib.Nat.{div-lt_iff_lt-mul, le-div_iff_mul-le}
-use mathlib.Core.List.{List, [], ◌∷◌, ◌++◌, flatten}
+use mathlib.Core.List.{List, ◌++◌, flatten}
 use lib.ListN.{length, drop, get_or, replicate, length-append, length-replicate}
 use borrow.Author.Tests.{lt-ltb, le-ltb}
-use borrow.Rule.Slice.PartMut.{post_of}
 use Rattle.bits.specs.Vectors.{tab}
 use Rattle.bits.specs.Rows.{Wide}
 use Rattle.bits.proofs.Tests.{le_or_lt, eq_or_ne}
@@ -26,7 +25,13 @@ use Rattle.meaning.proofs.Heading.{header-long}
 use Rattle.stream.specs.Laying.{laid}
 use Rattle.stream.proofs.Fitting.{keeps-length}
 use Rattle.stream.proofs.Laying.{laid-long, recorded, word_fits}
-use Rattle.stream.proofs.Counting.{records_shape, records_choice, records-words, counted}
+use Rattle.std.specs.Prelude.{Err}
+use Rattle.meaning.specs.declared.Refused.{Refused}
+use Rattle.meaning.specs.Results.{refusal}
+use Rattle.stream.specs.declared.Terms.{Terms}
+use Rattle.stream.specs.Agreement.{agreement}
+use Rattle.stream.proofs.Agreeing.{Agreed, refused_alone, one_refused, counted_terms}
+use Rattle.stream.proofs.Counting.{records_shape, records_choice, records-words}
 
 -- the record of word i
 abbrev pub record_at : ℕ → List ℕ → ℕ → ℕ → List ℕ → ℕ → List ℕ
@@ -79,46 +84,33 @@ module _ (s ch input out : List ℕ) (k : ℕ) (ek : k ≡ length (records s ch 
       let m : k * answer_bytes ≡ length (flatten (records s ch input)) = ap (λ (j : ℕ). j * answer_bytes) ek ∙ sym (length-flatten answer_bytes (records s ch input) (records-wide s ch input)) in
       rw (le-ltb (length out) (length (records s ch input) * answer_bytes) l) (ap (λ (t : List ℕ). leaving t Done) (e ∙ ap (λ (j : ℕ). flatten (records s ch input) ++ drop j out) m))
 
--- ---- the records, case by case, for the n that the code finds
+-- ---- the records, as the code writes them
 
-module _ (s ch input out : List ℕ) (n : ℕ) (en : n ≡ n_of s) (k : ℕ) (ek : k ≡ length (records s ch input)) where
-  -- one record alone, where there is room for it
-  alone : (x : List ℕ) (a : Answer) → records s ch input ≡ refused_record a ∷ [] → x ≡ refused_record a → x ++ post_of 0 (answer_bytes - 0) out ≡ flatten (records s ch input) ++ drop (k * answer_bytes) out
-  alone x a e ex =
-      let j : answer_bytes - 0 ≡ k * answer_bytes = (let q : answer_bytes - 0 ≡ 1 * answer_bytes = omega arith in q) ∙ ap (λ (i : ℕ). i * answer_bytes) (sym (ek ∙ ap length e)) in
-      ap₂ {C = List ℕ} (λ t i. t ++ drop i out) (ex ∙ sym (ap flatten e ∙ flatten_one (refused_record a))) j
+module _ (s ch input out : List ℕ) (k : ℕ) (ek : k ≡ length (records s ch input)) where
+  module _ (e : Refused) (h : Err e ≡ agreement s ch) where
+    -- one record alone, where there is room for it
+    one : 1 ≡ k
+    one = one_refused s ch input e h ∙ sym ek
 
-  room_for_one : (a : Answer) → records s ch input ≡ refused_record a ∷ [] → k * answer_bytes ≤ length out → answer_bytes ≤ length out
-  room_for_one a e h = let q : k * answer_bytes ≡ 1 * answer_bytes = ap (λ (i : ℕ). i * answer_bytes) (ek ∙ ap length e) in omega (arith, q)
+    pub alone_room : k ≤ length out / answer_bytes → answer_bytes ≤ length out
+    alone_room q = let l : k * answer_bytes ≤ length out = room s ch input out k ek q in omega (arith, ap (λ (i : ℕ). i * answer_bytes) one)
 
-  module _ (h : largest_n < n) where
-    shape : records s ch input ≡ refused_record BadShape ∷ []
-    shape = records_shape s ch input (rw (← en) h)
+    pub alone : (x : List ℕ) → x ≡ refused_record (refusal e) → x ++ drop answer_bytes out ≡ flatten (records s ch input) ++ drop (k * answer_bytes) out
+    alone x ex =
+        let j : answer_bytes ≡ k * answer_bytes = (let q : answer_bytes ≡ 1 * answer_bytes = omega arith in q) ∙ ap (λ (i : ℕ). i * answer_bytes) one in
+        ap₂ {C = List ℕ} (λ t i. t ++ drop i out) (ex ∙ sym (ap flatten (refused_alone s ch input e h) ∙ flatten_one (refused_record (refusal e)))) j
 
-    pub shape_room : k * answer_bytes ≤ length out → answer_bytes ≤ length out
-    shape_room = room_for_one BadShape shape
+  module _ (t : Terms) (a : Agreed s ch t) where
+    abbrev count : ℕ
+    count = rounded_up (length input) (2 ^ t.n)
 
-    pub shape_alone : (x : List ℕ) → x ≡ refused_record BadShape → x ++ post_of 0 (answer_bytes - 0) out ≡ flatten (records s ch input) ++ drop (k * answer_bytes) out
-    shape_alone x ex = alone x BadShape shape ex
+    same_count : count ≡ k
+    same_count = counted_terms s ch input t a (2 ^ t.n) refl count refl ∙ sym ek
 
-  module _ (h : n ≤ largest_n) where
-    module _ (q : length ch ≡ 2 → ⊥) where
-      choice : records s ch input ≡ refused_record BadCheck ∷ []
-      choice = records_choice s ch input (rw (← en) h) q
+    pub words_room : k ≤ length out / answer_bytes → count * answer_bytes ≤ length out
+    words_room h = rw same_count (room s ch input out k ek h)
 
-      pub choice_room : k * answer_bytes ≤ length out → answer_bytes ≤ length out
-      choice_room = room_for_one BadCheck choice
-
-      pub choice_alone : (x : List ℕ) → x ≡ refused_record BadCheck → x ++ post_of 0 (answer_bytes - 0) out ≡ flatten (records s ch input) ++ drop (k * answer_bytes) out
-      choice_alone x ex = alone x BadCheck choice ex
-
-    module _ (q : length ch ≡ 2) where
-      pub words_count : k ≡ rounded_up (length input) (2 ^ n)
-      words_count = ek ∙ sym (counted s ch input n en h q (2 ^ n) refl (rounded_up (length input) (2 ^ n)) refl)
-
-      pub words-all : (x : List ℕ) → x ≡ flatten (tab k (record_at n s (get_or ch 0 0) (get_or ch 1 0) input)) ++ drop (k * answer_bytes) out → x ≡ flatten (records s ch input) ++ drop (k * answer_bytes) out
-      words-all x ex =
-          let r : records s ch input ≡ tab k (record_at n s (get_or ch 0 0) (get_or ch 1 0) input) = records-words s ch input (rw (← en) h) q
-          ∙ ap (λ (m : ℕ). tab (rounded_up (length input) (2 ^ m)) (record_at m s (get_or ch 0 0) (get_or ch 1 0) input)) (sym en)
-          ∙ ap (λ (j : ℕ). tab j (record_at n s (get_or ch 0 0) (get_or ch 1 0) input)) (sym words_count) in
-          ex ∙ ap (λ (t : List (List ℕ)). flatten t ++ drop (k * answer_bytes) out) (sym r)
+    pub words-all : (x : List ℕ) → x ≡ flatten (tab count (record_at t.n s t.r t.ceiling input)) ++ drop (count * answer_bytes) out → x ≡ flatten (records s ch input) ++ drop (k * answer_bytes) out
+    words-all x ex =
+        let r : tab count (record_at t.n s t.r t.ceiling input) ≡ records s ch input = rw (a.r-is, a.ceiling-is, a.n-is) (sym (records-words s ch input (rw (← a.n-is) a.small) a.two)) in
+        ex ∙ ap₂ {C = List ℕ} (λ (l : List (List ℕ)) (j : ℕ). flatten l ++ drop (j * answer_bytes) out) r same_count

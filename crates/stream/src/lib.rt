@@ -1,4 +1,4 @@
-// The answers to a whole input: one record of 1,552 bytes for each word, in its place. Every function here is total, and over
+// The answers to a whole input: one record of 1,552 bytes for each word, in its place. Every public function is total, and over
 // values: the bytes of sheet.bin, of choice.bin (r, then the ceiling) and of the words end to end.
 #![tactic(auto)]
 
@@ -7,25 +7,54 @@ ghost use mathlib.Core.List.{◌++◌, flatten};
 ghost use Rattle.bits.specs.Vectors.{tab};
 ghost use Rattle.meaning.specs.Limits.{largest_n};
 ghost use Rattle.meaning.specs.Answers.{reply};
+ghost use Rattle.meaning.specs.Results.{done_or_refusal};
 ghost use Rattle.meaning.specs.Stream.{answer_bytes, answer_record, n_of, rounded_up, word_at, records, streaming};
+ghost use Rattle.stream.specs.Agreement.{agreement};
 
 mod record;
 
 use answers::pieces;
-use meaning::{Answer, limits};
+use meaning::{Refused, limits};
 
-// The n of a sheet of N = 2 to the n records, from its length; 10 where no n up to 9 has such a sheet.
+// What an input is answered by: n, the length of the check, and the ceiling. The sheet stays beside them: three numbers are
+// copied, and need no lifetime.
+#[derive(Clone, Copy)]
+pub struct Terms {
+    pub n: usize,
+    pub r: usize,
+    pub ceiling: usize,
+}
+
+// The n of a sheet of N = 2 to the n records, from its length; 10 where no n up to 9 has such a sheet: a
+// number, as README says and since it cannot fail. `agreed` is what can.
 pub fn n_of(sheet: &[u8]) -> usize
     ensures { result ≡ n_of sheet.now }
 {
-    let mut n = 0;
-    while n <= limits::LARGEST_N {
+    for n in 0..=limits::LARGEST_N {
         if sheet::recorded(n, sheet.len()) {
             return n;
         }
-        n += 1;
     }
-    n
+    limits::LARGEST_N + 1
+}
+
+// The terms that a sheet and a choice set. Refused where the sheet is not 68N bytes long (11); else where the choice is not two
+// bytes (13), whatever the sheet holds.
+pub fn agreed(sheet: &[u8], choice: &[u8]) -> Result<Terms, Refused>
+    ensures { result ≡ agreement sheet.now choice.now }
+{
+    let n = n_of(sheet);
+    if limits::LARGEST_N < n {
+        return Err(Refused::BadShape);
+    }
+    if choice.len() != 2 {
+        return Err(Refused::BadCheck);
+    }
+    Ok(Terms {
+        n,
+        r: usize::from(choice[0]),
+        ceiling: usize::from(choice[1]),
+    })
 }
 
 // The number of records that an input is answered with: one for each word, the cut-off last one too; one alone where the
@@ -33,59 +62,23 @@ pub fn n_of(sheet: &[u8]) -> usize
 pub fn records(sheet: &[u8], choice: &[u8], input: &[u8]) -> usize
     ensures { result ≡ length (records sheet.now choice.now input.now) }
 {
-    let n = n_of(sheet);
-    if limits::LARGEST_N < n {
-        return 1;
+    match agreed(sheet, choice) {
+        Ok(t) => pieces::count(input.len(), sheet::size(t.n)),
+        Err(_) => 1,
     }
-    if choice.len() != 2 {
-        return 1;
-    }
-    pieces::count(input.len(), sheet::size(n))
 }
 
-// Writes the records of k words, one after the other.
-fn words(n: usize, sheet: &[u8], r: usize, ceiling: usize, input: &[u8], k: usize, out: &mut [u8])
-    requires { (n ≤ largest_n) × (k ≡ rounded_up (length input.now) (2 ^ n)) × (k * answer_bytes ≤ length out.old) }
-    ensures { out.new ≡ flatten (tab k (λ (i : ℕ). answer_record n sheet.now r ceiling (word_at n input.now i))) ++ drop (k * answer_bytes) out.old }
+// Writes the records of all words, one after the other.
+fn words(t: Terms, sheet: &[u8], input: &[u8], out: &mut [u8])
+    requires { (t.n ≤ largest_n) × (rounded_up (length input.now) (2 ^ t.n) * answer_bytes ≤ length out.old) }
+    ensures { out.new ≡ flatten (tab (rounded_up (length input.now) (2 ^ t.n)) (λ (i : ℕ). answer_record t.n sheet.now t.r t.ceiling (word_at t.n input.now i))) ++ drop (rounded_up (length input.now) (2 ^ t.n) * answer_bytes) out.old }
 {
-    let size = sheet::size(n);
-    let mut i = 0;
-    while i < k {
-        let from = i * size;
-        let end = pieces::end(i, size, input.len());
+    let size = sheet::size(t.n);
+    for (i, word) in input.chunks(size).enumerate() {
+        // By its place: of what chunks_exact_mut lends a proof learns only the length.
         let to = i * limits::ANSWER;
-        record::answer(
-            n,
-            sheet,
-            r,
-            ceiling,
-            &input[from..end],
-            &mut out[to..to + limits::ANSWER],
-        );
-        i += 1;
-    }
-}
-
-// Writes all records, where there is room for them.
-fn write(sheet: &[u8], choice: &[u8], input: &[u8], k: usize, out: &mut [u8])
-    requires { (k ≡ length (records sheet.now choice.now input.now)) × (k * answer_bytes ≤ length out.old) }
-    ensures { out.new ≡ flatten (records sheet.now choice.now input.now) ++ drop (k * answer_bytes) out.old }
-{
-    let n = n_of(sheet);
-    if limits::LARGEST_N < n {
-        record::refuse(Answer::BadShape, &mut out[0..limits::ANSWER]);
-    } else if choice.len() != 2 {
-        record::refuse(Answer::BadCheck, &mut out[0..limits::ANSWER]);
-    } else {
-        words(
-            n,
-            sheet,
-            choice[0] as usize,
-            choice[1] as usize,
-            input,
-            k,
-            out,
-        );
+        let place = &mut out[to..to + limits::ANSWER];
+        record::answer(t, sheet, word, place);
     }
 }
 
@@ -95,15 +88,18 @@ fn write(sheet: &[u8], choice: &[u8], input: &[u8], k: usize, out: &mut [u8])
 // last word has its record too.
 // Where the sheet is not 68N bytes long there is one record, of code 11; else, where the choice is not two bytes, one of 13,
 // whatever the sheet holds.
-// Answers Done, later bytes as found; or ShortOutput (16), before all else, where the output is too short for the records,
-// and leaves it as found.
-pub fn answer(sheet: &[u8], choice: &[u8], input: &[u8], out: &mut [u8]) -> Answer
-    ensures { reply out.new result ≡ streaming sheet.now choice.now input.now out.old }
+// Later bytes stay as found. Refused as ShortOutput (16), before all else, where the output is too short for the records,
+// which leaves it as found.
+pub fn answer(sheet: &[u8], choice: &[u8], input: &[u8], out: &mut [u8]) -> Result<(), Refused>
+    ensures { reply out.new (done_or_refusal result) ≡ streaming sheet.now choice.now input.now out.old }
 {
     let k = records(sheet, choice, input);
     if out.len() / limits::ANSWER < k {
-        return Answer::ShortOutput;
+        return Err(Refused::ShortOutput);
     }
-    write(sheet, choice, input, k, out);
-    Answer::Done
+    match agreed(sheet, choice) {
+        Ok(t) => words(t, sheet, input, out),
+        Err(e) => record::refuse(e, &mut out[..limits::ANSWER]),
+    }
+    Ok(())
 }

@@ -1,10 +1,12 @@
 // One answer record: the numbers of its answer, then three strips.
-ghost use Rattle.std.specs.Prelude.{◌≡◌, ◌++◌, ◌*◌, ◌^◌, ◌≤◌, length, replicate};
+ghost use Rattle.std.specs.Prelude.{◌≡◌, ◌++◌, ◌*◌, ◌≤◌, length, replicate};
 ghost use Rattle.meaning.specs.Limits.{largest_n, strip_width};
 ghost use Rattle.meaning.specs.Stream.{header, answer_bytes, answer_record, refused_record};
+ghost use Rattle.meaning.specs.Results.{refusal};
 ghost use Rattle.stream.specs.Laying.{laid};
 
-use meaning::{Answer, limits};
+use crate::Terms;
+use meaning::{Answer, Refused, limits};
 
 // Three strips before anything is copied into them.
 fn blank() -> [u8; limits::STRIPS]
@@ -13,7 +15,8 @@ fn blank() -> [u8; limits::STRIPS]
     [255; limits::STRIPS]
 }
 
-// Copies the three parts of `found`, each of `size` bytes, to the starts of three strips.
+// Copies the three parts of `found`, each of `size` bytes, to the starts of three strips. One by one: of what is written through
+// chunks_exact_mut a proof knows nothing.
 fn lay(found: &[u8], size: usize, strips: &mut [u8])
     requires { (length found.now ≡ 3 * size) × (size ≤ strip_width) × (strips.old ≡ replicate (3 * strip_width) 255) }
     ensures { strips.new ≡ laid size found.now }
@@ -29,7 +32,7 @@ fn lay(found: &[u8], size: usize, strips: &mut [u8])
     );
 }
 
-// Writes a record.
+// Writes a record. By octets::copy, which asks nothing of the lengths.
 fn put(a: Answer, strips: &[u8], out: &mut [u8])
     requires { (length strips.now ≡ 3 * strip_width) × (length out.old ≡ answer_bytes) }
     ensures { out.new ≡ header a ++ strips.now }
@@ -38,49 +41,24 @@ fn put(a: Answer, strips: &[u8], out: &mut [u8])
     bits::octets::copy(strips, &mut out[limits::HEAD..]);
 }
 
-// Writes the record of an answer that left its output untouched.
-pub fn refuse(a: Answer, out: &mut [u8])
+// Writes the record of a refusal.
+pub fn refuse(e: Refused, out: &mut [u8])
     requires { length out.old ≡ answer_bytes }
-    ensures { out.new ≡ refused_record a }
+    ensures { out.new ≡ refused_record (refusal e) }
 {
-    put(a, &blank(), out);
-}
-
-// `answer`, with 3N bytes of 255 for what is found and three blank strips.
-fn answer_in(
-    n: usize,
-    sheet: &[u8],
-    r: usize,
-    ceiling: usize,
-    word: &[u8],
-    found: &mut [u8],
-    strips: &mut [u8],
-    out: &mut [u8],
-)
-    requires { (n ≤ largest_n) × (found.old ≡ replicate (3 * 2 ^ n) 255) × (strips.old ≡ replicate (3 * strip_width) 255) × (length out.old ≡ answer_bytes) }
-    ensures { out.new ≡ answer_record n sheet.now r ceiling word.now }
-{
-    let a = decoder::decode(n, sheet, r, ceiling, word, found);
-    lay(found, sheet::size(n), strips);
-    put(a, strips, out);
+    put(Answer::from(e), &blank(), out);
 }
 
 // Writes the record of one word.
-pub fn answer(n: usize, sheet: &[u8], r: usize, ceiling: usize, word: &[u8], out: &mut [u8])
-    requires { (n ≤ largest_n) × (length out.old ≡ answer_bytes) }
-    ensures { out.new ≡ answer_record n sheet.now r ceiling word.now }
+pub fn answer(t: Terms, sheet: &[u8], word: &[u8], out: &mut [u8])
+    requires { (t.n ≤ largest_n) × (length out.old ≡ answer_bytes) }
+    ensures { out.new ≡ answer_record t.n sheet.now t.r t.ceiling word.now }
 {
-    let mut found = blank();
+    let size = sheet::size(t.n);
+    let mut room = blank();
+    let found = &mut room[..3 * size];
+    let verdict = decoder::decode(t.n, sheet, t.r, t.ceiling, word, found);
     let mut strips = blank();
-    let size = sheet::size(n);
-    answer_in(
-        n,
-        sheet,
-        r,
-        ceiling,
-        word,
-        &mut found[0..3 * size],
-        &mut strips,
-        out,
-    );
+    lay(found, size, &mut strips);
+    put(Answer::from(verdict), &strips, out);
 }

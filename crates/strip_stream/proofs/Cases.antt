@@ -1,5 +1,6 @@
 -- The records and parts of an input, by the lengths of the sheet and the choice.
---     Alone, alone_shape, alone_choice     one record alone, and no part
+--     Alone, alone_shape, alone_choice, alone     one record alone, and no part
+--     many_refused, unwrapped              how many where there are no terms; a count, or a number in its place
 --     Right, right                         a record and a part for each strip
 --     reply-long, headers-wide, parts-wide, headers-many, parts-many     how long each is, and how many there are
 use mathlib.Core.Path.{◌≡◌, refl, sym, ap, ◌∙◌}
@@ -11,6 +12,12 @@ use lib.ListN.{length, replicate, length-replicate}
 use lib.Dec.{eqb, ltb}
 use lib.Pow.{pow_pos}
 use borrow.Author.Tests.{eq-eqb, ne_eqb, lt-ltb, le-ltb}
+use Rattle.std.specs.Prelude.{Result, Ok, Err, MatchResult}
+use Rattle.std.specs.Result.{result_unwrap_or}
+use Rattle.meaning.specs.declared.Refused.{Refused}
+use Rattle.meaning.specs.Results.{refusal}
+use Rattle.stream.specs.Agreement.{agreement}
+use Rattle.stream.proofs.Agreeing.{refused_by}
 use Rattle.bits.specs.Vectors.{pick, tab}
 use Rattle.bits.specs.Rows.{Wide}
 use Rattle.bits.proofs.Tests.{length-tab}
@@ -78,6 +85,10 @@ module _ (s ch lost input : List ℕ) where
     unfolding headers parts record_count part_count
     right e = record { headed = case_right s ch _ _ _ h e; parted = case_right s ch _ _ _ h e; many = case_right s ch _ _ _ h e; each = case_right s ch _ _ _ h e }
 
+  -- one record alone where the sheet and the choice set no terms
+  pub alone : (e : Refused) → Err e ≡ agreement s ch → Alone s ch lost input (refusal e)
+  alone = refused_by s ch (λ e. Alone s ch lost input (refusal e)) alone_shape alone_choice
+
 -- how many, for the n that the code finds; `alone` where a length is wrong
 module _ (s ch input : List ℕ) (alone n : ℕ) (en : n ≡ n_of s) where
   pub many_shape : largest_n < n → alone ≡ by_case s ch alone alone (strip_count s input)
@@ -90,6 +101,14 @@ module _ (s ch input : List ℕ) (alone n : ℕ) (en : n ≡ n_of s) where
     pub many-right : length ch ≡ 2 → (size k : ℕ) → size ≡ strip_bytes n → k ≡ rounded_up (length input) size → k ≡ by_case s ch alone alone (strip_count s input)
     many-right e size k es ek =
         ek ∙ ap (rounded_up (length input)) (es ∙ ap strip_bytes en) ∙ sym (case_right s ch alone alone (strip_count s input) (rw (← en) h) e)
+
+pub many_refused : (s ch input : List ℕ) (alone : ℕ) (e : Refused) → Err e ≡ agreement s ch → alone ≡ by_case s ch alone alone (strip_count s input)
+many_refused s ch input alone = refused_by s ch (λ e. alone ≡ by_case s ch alone alone (strip_count s input)) (many_shape s ch input alone (n_of s) refl) (many_choice s ch input alone (n_of s) refl)
+
+-- a count, or d where there is none
+pub unwrapped : (r : Result ℕ Refused) (d m x : ℕ) → MatchResult r (λ k. k ≡ m) (λ e. d ≡ m) → x ≡ result_unwrap_or r d → x ≡ m
+unwrapped (Ok k) d m x h e = e ∙ h
+unwrapped (Err k) d m x h e = e ∙ h
 
 -- ---- lengths
 

@@ -1,5 +1,5 @@
 -- What the functions leave in the two buffers.
---     put_is, put_whole, replied       the record of an answer, and the reply to one strip
+--     put_whole, replied               the record of an answer, and the reply to one strip
 --     headers-bytes, parts-bytes       how many bytes the records and parts have
 --     alone_records, alone_repaired    one record, and no part
 --     each_records, each_repaired      a record and a part for each strip
@@ -12,8 +12,7 @@ use native.Mathlib.Omega.{arith}
 use native.Mathlib.Nat.{div-lt_iff_lt-mul, le-div_iff_mul-le, zero-mul}
 use mathlib.Core.Bool.{Bool, true, false}
 use mathlib.Core.List.{List, ◌++◌, flatten, append-nil}
-use lib.ListN.{length, take, drop, get_or, replicate, drop_of_length-le}
-use lib.Seq.{take-length}
+use lib.ListN.{length, drop, get_or, replicate, drop_of_length-le}
 use lib.Dec.{ltb}
 use borrow.Author.Tests.{lt-ltb, le-ltb, ltb-true, ltb-false}
 use Rattle.bits.specs.Vectors.{tab}
@@ -24,17 +23,11 @@ use Rattle.meaning.specs.Answers.{Reply, reply}
 use Rattle.meaning.specs.Stream.{header, n_of, rounded_up, piece_at}
 use Rattle.meaning.specs.declared.Answer.{Answer}
 use Rattle.meaning.specs.declared.Answer.TheVariants.{Done, ShortOutput}
-use Rattle.meaning.proofs.Heading.{header-long}
 use Rattle.strips.specs.Repairing.{repairing}
 use Rattle.strip_stream.specs.Strips.{strip_bytes, part_bytes, strip_reply, record_count, part_count, headers, parts, leaving_both, answering_strips}
 use Rattle.strip_stream.proofs.Cases.{Alone, Right, headers-wide, parts-wide, headers-many, parts-many}
 
 -- ---- one strip
-
--- the bytes of a header copied to the start of a list
-pub put_is : (a : Answer) (h records x : List ℕ) → h ≡ header a → x ≡ take (length h) h ++ drop (length h) records → x ≡ header a ++ drop head_bytes records
-put_is a h records x eh ex =
-    ex ∙ ap₂ {C = List ℕ} ◌++◌ (take-length h ∙ eh) (ap (λ (k : ℕ). drop k records) (ap length eh ∙ header-long a))
 
 -- all of a list that is as long as a header
 pub put_whole : (a : Answer) (head x : List ℕ) → length head ≡ head_bytes → x ≡ header a ++ drop head_bytes head → x ≡ header a
