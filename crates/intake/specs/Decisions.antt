@@ -1,31 +1,35 @@
 -- What a program decides by what the system answered. A number that the system answers is negative where it could not do what was asked.
 --     is_opened fd               a file is open: its number is not negative
---     is_none z                  a read answered 0: nothing was left to read
---     is_moving z                a read answered more than 0: it put bytes into the room
---     Stopped n room last       why reading stopped at n bytes: they fill the room, or the last read answered 0 or less
---     is_whole n room last       of a file n bytes were read, and that was all: they fill the room, or the last read answered 0
+--     is_none e                  the last read answered 0: nothing was left to read
+--     is_moving e                the last read, if there was one, answered more than 0: it put bytes into the room
+--     Stopped n room e           why reading stopped at n bytes: they fill the room, or the last read answered 0 or failed
+--     is_whole n room e          of a file n bytes were read, and that was all: they fill the room, or the last read answered 0
 --     counted whole n           the bytes that count: none of a file that was not read to its end
 --     goes_on written got len    there is more to do: all was written, and as many bytes were got as were asked for
-use Rattle.std.specs.Prelude.{◌≡◌, ℕ, Bool, true, false, ◌&&◌, ◌||◌, ◌⊎◌, eqb, ltb, ℤ, pos, negsuc}
+use Rattle.std.specs.Prelude.{◌≡◌, ℕ, Bool, true, false, ◌&&◌, ◌||◌, ◌⊎◌, eqb, ℤ, pos, negsuc}
 use Rattle.bits.specs.Vectors.{pick}
+use Rattle.intake.specs.declared.End.{End}
+use Rattle.intake.specs.declared.End.TheVariants.{Full, Ended, Failed}
 
 abbrev pub is_opened : ℤ → Bool
 is_opened (pos k) = true
 is_opened (negsuc k) = false
 
-abbrev pub is_none : ℤ → Bool
-is_none (pos k) = eqb k 0
-is_none (negsuc k) = false
+abbrev pub is_none : End → Bool
+is_none Full = false
+is_none Ended = true
+is_none (Failed why) = false
 
-abbrev pub is_moving : ℤ → Bool
-is_moving (pos k) = ltb 0 k
-is_moving (negsuc k) = false
+abbrev pub is_moving : End → Bool
+is_moving Full = true
+is_moving Ended = false
+is_moving (Failed why) = false
 
-abbrev pub Stopped : ℕ → ℕ → ℤ → Type 0
-Stopped n room last = (n ≡ room) ⊎ (is_moving last ≡ false)
+abbrev pub Stopped : ℕ → ℕ → End → Type 0
+Stopped n room end = (n ≡ room) ⊎ (is_moving end ≡ false)
 
-abbrev pub is_whole : ℕ → ℕ → ℤ → Bool
-is_whole n room last = eqb n room || is_none last
+abbrev pub is_whole : ℕ → ℕ → End → Bool
+is_whole n room end = eqb n room || is_none end
 
 abbrev pub counted : Bool → ℕ → ℕ
 counted whole n = pick whole n 0

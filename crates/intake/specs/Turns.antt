@@ -3,7 +3,7 @@
 --     Ends made more   a turn was made, and there is more to come only where no further turn can be counted
 use Rattle.std.specs.Prelude.{◌≡◌, ℕ, ◌-◌, ◌^◌, ◌≤◌, Bool, true}
 
-unfoldable pub most_turns : ℕ
+abbrev pub most_turns : ℕ
 most_turns = 2 ^ 64 - 1
 
 pub record Ends (made : ℕ) (more : Bool) : Type 0 where

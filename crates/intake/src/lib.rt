@@ -4,6 +4,7 @@
 
 ghost use Rattle.std.specs.Prelude.{◌≡◌, ◌-◌, ◌≤◌, length, take, IfOk};
 ghost use Rattle.intake.specs.Decisions.{is_opened, Stopped, is_whole, counted, goes_on};
+ghost use Rattle.intake.specs.Turns.{Ends};
 
 mod streams;
 
@@ -11,19 +12,43 @@ use std::io;
 use std::io::Read;
 pub use streams::Streams;
 
-// Whether a file is open, by the number that opening it answered.
+// Whether a file is open, by the number that opening it answered. Nothing calls it: it stands for its promise and the two edits
+// of it in must-fail, zero_is_refused and standard_numbers_refused.
 pub fn opened(fd: i32) -> bool
     ensures { result ≡ is_opened fd }
 {
     fd >= 0
 }
 
-// How many bytes were read, and what the last read answered: how many bytes, or -1 where it failed, and then why.
+// How reading ended: its room was full, there was no more to read, or a read failed, and why.
+#[derive(Clone, Copy)]
+pub enum End {
+    Full,
+    Ended,
+    Failed(io::Error),
+}
+
+// How many bytes were read, and how reading ended.
 #[derive(Clone, Copy)]
 pub struct Got {
     pub n: usize,
-    pub last: isize,
-    pub why: Option<io::Error>,
+    pub end: End,
+}
+
+impl Got {
+    // Whether these bytes are all that there is to read, or all that the room holds.
+    pub fn whole(&self, room: usize) -> bool
+        ensures { result ≡ is_whole self.now.n room self.now.end }
+    {
+        self.n == room || matches!(self.end, End::Ended)
+    }
+
+    // How many of these bytes count: none where the file was not read to its end.
+    pub fn counted(&self, room: usize) -> usize
+        ensures { result ≡ counted (is_whole self.now.n room self.now.end) self.now.n }
+    {
+        if self.whole(room) { self.n } else { 0 }
+    }
 }
 
 // Makes one read into buf behind its first n bytes, which stay as they are, and answers what it answered.
@@ -35,43 +60,29 @@ fn read_behind<R: Read>(from: &mut R, n: usize, buf: &mut [u8]) -> io::Result<us
     from.read(&mut buf[n..])
 }
 
-// Reads into buf until it is full, or a read answers 0, the end, or less, a failure. After such an answer it reads no more,
-// since the system may report a failure only once.
+// Reads into buf until it is full, or a read answers 0, the end, or fails. After such an answer it reads no more, since the
+// system may report a failure only once.
 pub fn read<R: Read>(from: &mut R, buf: &mut [u8]) -> Got
     ensures n_in_bounds { result.n ≤ length buf.new }
-    ensures stopped { Stopped result.n (length buf.new) result.last }
+    ensures stopped { Stopped result.n (length buf.new) result.end }
 {
     let mut n = 0;
-    let mut last = 1isize;
-    let mut why = None;
-    while last > 0 && n < buf.len() {
+    // No `for`: a read brings any number of bytes.
+    while n < buf.len() {
         match read_behind(from, n, buf) {
-            Ok(k) => {
-                last = k as isize;
-                n += k;
+            Ok(0) => {
+                return Got { n, end: End::Ended };
             }
-            Err(e) => {
-                last = -1;
-                why = Some(e);
+            Ok(k) => n += k,
+            Err(why) => {
+                return Got {
+                    n,
+                    end: End::Failed(why),
+                };
             }
         }
     }
-    Got { n, last, why }
-}
-
-// Whether the n bytes read into a room are all that there is to read, or all that it holds; `last` is what the last read
-// answered.
-pub fn whole(n: usize, room: usize, last: isize) -> bool
-    ensures { result ≡ is_whole n room last }
-{
-    n == room || last == 0
-}
-
-// How many of n bytes count: none where the file was not read to its end.
-pub fn counted(whole: bool, n: usize) -> usize
-    ensures { result ≡ counted whole n }
-{
-    if whole { n } else { 0 }
+    Got { n, end: End::Full }
 }
 
 // Whether to go on after a run: its records were written, and it was full.
@@ -81,23 +92,51 @@ pub fn goes_on(written: bool, got: usize, len: usize) -> bool
     written && got == len
 }
 
+// How many turns were made, and whether there was more to come. Both say something in every case, so this is no Option.
+#[derive(Clone, Copy)]
+pub struct Progress {
+    pub made: u64,
+    pub more: bool,
+}
+
+// Takes turns until one answers that there is no more. They are counted, since a proved loop has to end and nothing says that the
+// input does; no run of a program counts so many.
+pub fn turns<F: FnMut() -> bool>(mut turn: F) -> Progress
+    requires { F.IsAlwaysCallable turn }
+    ensures { Ends result.made result.more }
+{
+    let mut made = 0u64;
+    for _ in 0..u64::MAX {
+        made += 1;
+        if !turn() {
+            return Progress { made, more: false };
+        }
+    }
+    Progress { made, more: true }
+}
+
 // Reads a file into buf, as far as it has room, and answers how many bytes. Where it cannot be opened or read to its end, says
 // why on standard error, behind `label`, and answers 0.
 pub fn load(streams: &Streams, path: &[u8], label: &[u8], buf: &mut [u8]) -> usize
     ensures { result ≤ length buf.new }
 {
-    match streams.open(path) {
-        Ok(mut file) => {
-            let got = read(&mut file, buf);
-            let all = whole(got.n, buf.len(), got.last);
-            if !all {
-                streams.fail(label, got.why);
-            }
-            counted(all, got.n)
-        }
-        Err(why) => {
-            streams.fail(label, Some(why));
-            0
-        }
+    let got = match streams.open(path) {
+        Ok(mut file) => read(&mut file, buf),
+        Err(why) => Got {
+            n: 0,
+            end: End::Failed(why),
+        },
+    };
+    if let End::Failed(why) = got.end {
+        streams.fail(label, Some(why));
     }
+    got.counted(buf.len())
+}
+
+// Reads a file as `load` does, and answers what was read.
+pub fn read_file<'a>(streams: &Streams, path: &[u8], label: &[u8], buf: &'a mut [u8]) -> &'a [u8]
+    ensures { length result.now ≤ length buf.old }
+{
+    let n = load(streams, path, label, buf);
+    &buf[..n]
 }

@@ -20,11 +20,11 @@ const TEXT: usize = 320;
 fn put_error(why: Option<io::Error>, buf: &mut [u8]) -> usize
     ensures { result ≤ length buf.new }
 {
-    let Some(e) = why else {
+    let Some(why) = why else {
         return 0;
     };
     let mut to = Cursor::new(&mut *buf);
-    let _ = write!(to, "{e}");
+    let _ = write!(to, "{why}");
     let n = to.position() as usize;
     n.min(buf.len())
 }
@@ -79,7 +79,7 @@ impl Streams {
     // Reads standard input into buf as `read` does.
     pub fn read(&self, buf: &mut [u8]) -> Got
         ensures n_in_bounds { result.n ≤ length buf.new }
-        ensures stopped { Stopped result.n (length buf.new) result.last }
+        ensures stopped { Stopped result.n (length buf.new) result.end }
     {
         crate::read(&mut self.rt.stdin(), buf)
     }

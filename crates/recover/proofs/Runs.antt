@@ -1,10 +1,10 @@
--- The records of a run have room, and so has one record; what is filled in lies within the output.
+-- The records of a run have room; what is filled in.
 use mathlib.Core.Path.{◌≡◌, refl, sym, ap, ◌∙◌}
 use Prim.Native.Nat.{ℕ, ◌*◌, ◌%◌, ◌^◌, ◌≤◌}
 use native.Mathlib.Nat.{le_trans, le_of_eq, mul-le-mul_right}
 use native.Mathlib.Omega.{arith}
-use mathlib.Core.List.{List, [], ◌++◌, flatten}
-use lib.ListN.{length, drop, length-append}
+use mathlib.Core.List.{List, ◌++◌, flatten}
+use lib.ListN.{length, drop}
 use lib.Pow.{pow_pos, pow_mono}
 use Rattle.meaning.specs.Limits.{largest_n}
 use Rattle.meaning.specs.Answers.{leaving}
@@ -24,15 +24,7 @@ run_room s ch run room ok input h =
     let l : rounded_up (length input) N ≤ run_words = rounded_few (length input) N run_words (omega (arith, pow_pos (n_of s))) (omega (arith, ok.words)) in
     le_trans (mul-le-mul_right answer_bytes (le_trans (le_of_eq (sym e)) l)) ok.roomy
 
--- a run has room for one record
-pub one_room : (room : ℕ) → room ≡ run_words * answer_bytes → answer_bytes ≤ room
-unfolding run_words
-one_room room e = omega arith
-
-pub one_fits : (s ch : List ℕ) (room : ℕ) → length (records s ch []) ≡ 1 → answer_bytes ≤ room → length (records s ch []) * answer_bytes ≤ room
-one_fits s ch room e l = rw e (omega arith)
-
-module _ (s ch input : List ℕ) (n : ℕ) (e : n ≡ n_of s) where
+module _ (s ch : List ℕ) (n : ℕ) (e : n ≡ n_of s) where
   pub ready : n ≤ largest_n → length ch ≡ 2 → (run : ℕ) → run ≡ run_words * 2 ^ n → Ready s ch run (run_words * answer_bytes)
   ready h q run er = record { small = rw (← e) h; two = q; words = er ∙ ap (λ (k : ℕ). run_words * 2 ^ k) e; roomy = omega arith }
 
@@ -40,10 +32,6 @@ module _ (s ch input : List ℕ) (n : ℕ) (e : n ≡ n_of s) where
 pub run_is : (n : ℕ) → n ≤ largest_n → (run_words * 2 ^ n % 2 ^ 64 ≡ run_words * 2 ^ n) × (run_words * 2 ^ n ≤ run_words * 2 ^ largest_n)
 unfolding largest_n run_words
 run_is n h = let l = pow_mono {i = n} {j = largest_n} h in (omega (arith, l), omega (arith, l))
-
--- the room keeps its size
-pub ready_same : (s ch : List ℕ) (run run' room room' : ℕ) → run' ≡ run → room' ≡ room → Ready s ch run room → Ready s ch run' room'
-ready_same s ch run run' room room' e q ok = rw (e, q) ok
 
 -- ---- what is filled in
 
@@ -54,7 +42,3 @@ filled_in_lem s ch words found out a k lent same p' l e =
     let p : leaving out a ≡ streaming s ch words found = rw same at p' in
     let q : k * answer_bytes ≡ length (flatten (records s ch words)) = ap (λ (j : ℕ). j * answer_bytes) e ∙ sym (length-flatten answer_bytes (records s ch words) (records-wide s ch words)) in
     record { bytes = q; filled = room-written s ch words found out a p l ∙ ap (λ (j : ℕ). flatten (records s ch words) ++ drop j found) (sym q) }
-
--- the records lie within the output
-pub filled-fits : (s ch words found out : List ℕ) (k : ℕ) → Filled s ch words found out k → k ≤ length out
-filled-fits s ch words found out k f = omega (arith, f.bytes, simp length-append at (ap length f.filled))

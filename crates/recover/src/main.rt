@@ -5,17 +5,21 @@
 // What cannot be read or written, and a file of wrong length, is said on standard error; else nothing is.
 #![tactic(auto)]
 
-ghost use Rattle.std.specs.Prelude.{◌≡◌, ◌*◌, ◌^◌, ◌≤◌, [], length, take};
+ghost use Rattle.std.specs.Prelude.{◌≡◌, ◌*◌, ◌^◌, ◌≤◌, [], length, OnErr};
 ghost use Rattle.meaning.specs.Limits.{largest_n};
 ghost use Rattle.meaning.specs.Stream.{answer_bytes, records};
 ghost use Rattle.intake.specs.Turns.{Ends};
 ghost use Rattle.recover.specs.Runs.{run_words, Ready, Filled};
 
-mod files;
-
-use intake::Streams;
-use meaning::limits;
+use intake::{End, Progress, Streams};
+use meaning::{Refused, limits};
 use std::process::ExitCode;
+
+// The bytes of the longest sheet.
+const LONGEST: usize = limits::RECORD * limits::POSITIONS;
+
+// The bytes of a choice.
+const PAIR: usize = 2;
 
 // One byte more than the longest sheet, so that a longer file is seen.
 const SHEET: usize = limits::RECORD * limits::POSITIONS + 1;
@@ -32,131 +36,108 @@ const INPUT: usize = RUN * limits::POSITIONS;
 // The bytes of the records of a run.
 const OUTPUT: usize = RUN * limits::ANSWER;
 
-// How many turns were made, and whether there was more to come.
+// What is said of a sheet or a choice of wrong length: no word is read.
+fn text(why: Refused) -> &'static [u8] {
+    match why {
+        Refused::BadShape =>
+            b"recover: sheet.bin is not 68 N bytes long for an N of 1, 2, 4, .. 512; no word was read\n",
+        _ => b"recover: choice.bin is not two bytes long; no word was read\n",
+    }
+}
+
+// The sheet and the choice, as they were read.
 #[derive(Clone, Copy)]
-struct Progress {
-    made: u64,
-    more: bool,
+struct Lot<'a> {
+    sheet: &'a [u8],
+    choice: &'a [u8],
 }
 
-// Says s on standard error.
-fn say(streams: &Streams, s: &[u8]) {
-    streams.say(s);
-}
-
-// Fills in the records of the first `got` bytes of the input, and answers how many bytes they are.
-fn fill(sheet: &[u8], choice: &[u8], input: &[u8], got: usize, out: &mut [u8]) -> usize
-    requires { (got ≤ length input.now) × (length (records sheet.now choice.now (take got input.now)) * answer_bytes ≤ length out.old) }
-    ensures { Filled sheet.now choice.now (take got input.now) out.old out.new result }
-{
-    let k = stream::records(sheet, choice, &input[0..got]);
-    stream::answer(sheet, choice, &input[0..got], out);
-    k * limits::ANSWER
-}
-
-// Writes s to standard output, or says on standard error that it cannot; answers whether it could.
-fn write(streams: &Streams, s: &[u8]) -> bool {
-    streams.write(
-        &mut streams.output(),
-        s,
-        b"recover: standard output, records are missing",
-    )
-}
-
-// Answers the first `got` bytes of the input and writes their records; answers whether it could.
-fn answer(
-    streams: &Streams,
-    sheet: &[u8],
-    choice: &[u8],
-    input: &[u8],
-    got: usize,
-    out: &mut [u8],
-) -> bool
-    requires { (got ≤ length input.now) × (length (records sheet.now choice.now (take got input.now)) * answer_bytes ≤ length out.old) }
-{
-    let k = fill(sheet, choice, input, got, out);
-    write(streams, &out[0..k])
-}
-
-// Reads a run of words, answers it and answers whether to go on. A read that fails ends the input, and is said.
-fn turn(streams: &Streams, sheet: &[u8], choice: &[u8], input: &mut [u8], out: &mut [u8]) -> bool
-    requires { Ready sheet.now choice.now (length input.old) (length out.old) }
-{
-    let got = streams.read(input);
-    let written = answer(streams, sheet, choice, input, got.n, out);
-    if written && !intake::whole(got.n, input.len(), got.last) {
-        streams.fail(
-            b"recover: standard input, the words after this point are not answered",
-            got.why,
-        );
+impl<'a> Lot<'a> {
+    // The lot, where its words can be answered, or why they cannot.
+    fn fit(self) -> Result<Fit<'a>, Refused>
+        ensures { OnErr result (length (records self.entry.sheet.now self.entry.choice.now []) ≡ 1) }
+    {
+        let t = stream::agreed(self.sheet, self.choice)?;
+        Ok(Fit {
+            lot: self,
+            run: RUN << t.n,
+        })
     }
-    intake::goes_on(written, got.n, input.len())
-}
 
-// Answers runs until one is the last. They are counted, since a proved loop has to end and nothing says that the input does;
-// no run of the program counts so many.
-fn turns(
-    streams: &Streams,
-    sheet: &[u8],
-    choice: &[u8],
-    input: &mut [u8],
-    out: &mut [u8],
-) -> Progress
-    requires { Ready sheet.now choice.now (length input.old) (length out.old) }
-    ensures { Ends result.made result.more }
-{
-    let mut made = 0u64;
-    let mut more = true;
-    while more && made < u64::MAX {
-        more = turn(streams, sheet, choice, input, out);
-        made += 1;
+    // Fills in the records of words, and answers how many bytes they are.
+    fn fill(&self, words: &[u8], out: &mut [u8]) -> usize
+        requires { length (records self.now.sheet.now self.now.choice.now words.now) * answer_bytes ≤ length out.old }
+        ensures { Filled self.now.sheet.now self.now.choice.now words.now out.old out.new result }
+    {
+        let k = stream::records(self.sheet, self.choice, words);
+        let _ = stream::answer(self.sheet, self.choice, words, out);
+        k * limits::ANSWER
     }
-    Progress { made, more }
-}
 
-// Answers all runs.
-fn run(streams: &Streams, sheet: &[u8], choice: &[u8], input: &mut [u8], out: &mut [u8])
-    requires { Ready sheet.now choice.now (length input.old) (length out.old) }
-{
-    let t = turns(streams, sheet, choice, input, out);
-    if t.more {
-        say(streams, b"recover: too many words\n");
+    // Answers words and writes their records; answers whether it could.
+    fn answer(&self, streams: &Streams, words: &[u8], out: &mut [u8]) -> bool
+        requires { length (records self.now.sheet.now self.now.choice.now words.now) * answer_bytes ≤ length out.old }
+    {
+        let k = self.fill(words, out);
+        streams.write(
+            &mut streams.output(),
+            &out[..k],
+            b"recover: standard output, records are missing",
+        )
+    }
+
+    // Says why no word is read, and writes the one record that there is without a word.
+    fn refuse(&self, streams: &Streams, why: Refused, out: &mut [u8])
+        requires { (length (records self.now.sheet.now self.now.choice.now []) ≡ 1) × (answer_bytes ≤ length out.old) }
+    {
+        streams.say(text(why));
+        self.answer(streams, &[], out);
     }
 }
 
-// Says why no word is read, and writes the one record that there is without a word.
-fn refuse(streams: &Streams, why: &[u8], sheet: &[u8], choice: &[u8], input: &[u8], out: &mut [u8])
-    requires { (length (records sheet.now choice.now []) ≡ 1) × (answer_bytes ≤ length out.old) }
-{
-    say(streams, why);
-    answer(streams, sheet, choice, input, 0, out);
+// A lot whose words can be answered, and the bytes of a run of its words.
+#[derive(Clone, Copy)]
+struct Fit<'a> {
+    lot: Lot<'a>,
+    run: usize,
+    ghost ready: { Ready lot.sheet.now lot.choice.now run (run_words * answer_bytes) },
+    ghost within: { run ≤ run_words * 2 ^ largest_n },
+}
+
+impl Fit<'_> {
+    // Reads a run of words, answers it and answers whether to go on. A read that fails ends the input, and is said.
+    // The two rooms are parameters: of a struct that held them the check asks whether each turn leaves it the same rooms, which
+    // calls of a closure do not tell.
+    fn turn(&self, streams: &Streams, input: &mut [u8; INPUT], out: &mut [u8; OUTPUT]) -> bool {
+        let run = &mut input[..self.run];
+        let got = streams.read(run);
+        let written = self.lot.answer(streams, &run[..got.n], out);
+        if written && let End::Failed(why) = got.end {
+            streams.fail(
+                b"recover: standard input, the words after this point are not answered",
+                Some(why),
+            );
+        }
+        intake::goes_on(written, got.n, run.len())
+    }
+
+    // Answers runs until one is the last.
+    fn turns(&self, streams: &Streams, input: &mut [u8; INPUT], out: &mut [u8; OUTPUT]) -> Progress
+        ensures { Ends result.made result.more }
+    {
+        intake::turns(|| self.turn(streams, input, out))
+    }
 }
 
 // Answers the words on standard input; where the sheet or the choice has a wrong length, reads none.
-fn serve(streams: &Streams, sheet: &[u8], choice: &[u8], input: &mut [u8], out: &mut [u8])
-    requires { (length input.old ≡ run_words * 2 ^ largest_n) × (length out.old ≡ run_words * answer_bytes) }
-{
-    let n = stream::n_of(sheet);
-    if limits::LARGEST_N < n {
-        refuse(
-            streams,
-            b"recover: sheet.bin is not 68 N bytes long for an N of 1, 2, 4, .. 512; no word was read\n",
-            sheet,
-            choice,
-            input,
-            out,
-        );
-    } else if choice.len() != 2 {
-        refuse(
-            streams,
-            b"recover: choice.bin is not two bytes long; no word was read\n",
-            sheet,
-            choice,
-            input,
-            out,
-        );
-    } else {
-        run(streams, sheet, choice, &mut input[0..RUN << n], out);
+fn serve(streams: &Streams, lot: Lot, input: &mut [u8; INPUT], out: &mut [u8; OUTPUT]) {
+    match lot.fit() {
+        Ok(fit) => {
+            if fit.turns(streams, input, out).more {
+                streams.say(b"recover: too many words\n");
+            }
+        }
+        Err(why) => lot.refuse(streams, why, out),
     }
 }
 
@@ -165,10 +146,14 @@ fn main(rt: HostRuntime) -> ExitCode {
     let streams = Streams::new(rt);
     let mut sheet = [0u8; SHEET];
     let mut choice = [0u8; CHOICE];
-    let s = files::load_sheet(&streams, &mut sheet);
-    let c = files::load_choice(&streams, &mut choice);
+    prove!(LONGEST < sheet.len());
+    prove!(PAIR < choice.len());
+    let lot = Lot {
+        sheet: intake::read_file(&streams, b"sheet.bin", b"recover: sheet.bin", &mut sheet),
+        choice: intake::read_file(&streams, b"choice.bin", b"recover: choice.bin", &mut choice),
+    };
     let mut input = [0u8; INPUT];
     let mut out = [0u8; OUTPUT];
-    serve(&streams, &sheet[0..s], &choice[0..c], &mut input, &mut out);
+    serve(&streams, lot, &mut input, &mut out);
     streams.status()
 }

@@ -1,10 +1,10 @@
--- The parts and records of a run have room, and so has one record; what is filled in lies within the buffers.
+-- The parts and records of a run have room; what is filled in.
 use mathlib.Core.Path.{◌≡◌, sym, ap, ◌∙◌}
 use Prim.Native.Nat.{ℕ, ◌*◌, ◌%◌, ◌^◌, ◌≤◌}
 use native.Mathlib.Nat.{le_trans, le_of_eq, mul-le-mul_right}
 use native.Mathlib.Omega.{arith}
 use mathlib.Core.List.{List, [], ◌++◌, flatten}
-use lib.ListN.{length, drop, length-append}
+use lib.ListN.{length, drop}
 use lib.Pow.{pow_mono}
 use Rattle.meaning.specs.Limits.{largest_n, head_bytes}
 use Rattle.meaning.specs.Stream.{n_of, rounded_up}
@@ -23,14 +23,6 @@ run_room s ch run l m ok strips h =
       parts_fit = le_trans (mul-le-mul_right (part_bytes (n_of s)) (le_trans (le_of_eq (part-count s ch [] ok.small ok.two strips)) few)) ok.parts_fit;
       records_fit = le_trans (mul-le-mul_right head_bytes (le_trans (le_of_eq (record_count_lem s ch [] ok.small ok.two strips)) few)) ok.records_fit;
     }
-
--- a run has room for one record
-pub one_room : (m : ℕ) → m ≡ run_strips * head_bytes → head_bytes ≤ m
-unfolding run_strips
-one_room m e = omega arith
-
-pub one_fits : (s ch : List ℕ) (l m : ℕ) → record_count s ch [] ≡ 1 → part_count s ch [] ≡ 0 → head_bytes ≤ m → Room s ch [] l m
-one_fits s ch l m e q h = record { parts_fit = rw q (omega arith); records_fit = rw e (omega arith) }
 
 module _ (s ch : List ℕ) (n : ℕ) (e : n ≡ n_of s) where
   -- the parts of the longest run fit, so those of any run do
@@ -51,10 +43,6 @@ pub run_is : (n : ℕ) → n ≤ largest_n → (16 * 64 * 2 ^ n % 2 ^ 64 ≡ run
 unfolding largest_n run_strips strip_bytes
 run_is n h = let l = pow_mono {i = n} {j = largest_n} h in (omega (arith, l), omega (arith, l))
 
--- the room keeps its size
-pub ready_same : (s ch : List ℕ) (run run' l l' m m' : ℕ) → run' ≡ run → l' ≡ l → m' ≡ m → Ready s ch run l m → Ready s ch run' l' m'
-ready_same s ch run run' l l' m m' e q u ok = rw (e, q, u) ok
-
 -- ---- what is filled in
 
 -- what `answer` leaves, given room
@@ -71,8 +59,3 @@ module _ (s ch lost strips found x found' y : List ℕ) (a : Answer) (k A j : �
         records_long = eJ ∙ sym (headers-bytes s ch lost strips);
         headed = w.2 ∙ ap (λ (t : ℕ). flatten (headers s ch lost strips) ++ drop t found') (sym eJ);
       }
-
--- the parts and the records lie within the buffers
-pub filled-fits : (s ch lost strips found x found' y : List ℕ) (k j : ℕ) → Filled s ch lost strips found x found' y k j → (k ≤ length x) × (j ≤ length y)
-filled-fits s ch lost strips found x found' y k j f =
-    (omega (arith, f.parts_long, simp length-append at (ap length f.parted)), omega (arith, f.records_long, simp length-append at (ap length f.headed)))

@@ -7,20 +7,23 @@
 // records cannot be opened, nothing is read or written.
 #![tactic(auto)]
 
-ghost use Rattle.std.specs.Prelude.{◌≡◌, ◌*◌, ◌≤◌, [], length, take};
+ghost use Rattle.std.specs.Prelude.{◌≡◌, ◌*◌, ◌≤◌, [], length, OnErr};
 ghost use Rattle.meaning.specs.Limits.{largest_n, head_bytes};
 ghost use Rattle.strip_stream.specs.Strips.{strip_bytes, part_bytes, record_count, part_count};
 ghost use Rattle.intake.specs.Turns.{Ends};
 ghost use Rattle.repair.specs.Runs.{run_strips, Room, Ready, Filled};
 
-mod files;
-
-use intake::Streams;
-use meaning::limits;
+use intake::{End, Progress, Streams};
+use meaning::{Refused, limits};
 use std::fs::File;
-use std::io::Write;
 use std::process::ExitCode;
 use std::rt::Env;
+
+// The bytes of the longest sheet.
+const LONGEST: usize = limits::RECORD * limits::POSITIONS;
+
+// The bytes of a choice.
+const PAIR: usize = 2;
 
 // One byte more than the longest sheet, so that a longer file is seen.
 const SHEET: usize = limits::RECORD * limits::POSITIONS + 1;
@@ -49,11 +52,13 @@ const RECORDS: usize = RUN * limits::HEAD;
 // Room for the name of a file.
 const PATH: usize = 4096;
 
-// How many turns were made, and whether there was more to come.
-#[derive(Clone, Copy)]
-struct Progress {
-    made: u64,
-    more: bool,
+// What is said of a sheet or a choice of wrong length: no strip is read.
+fn text(why: Refused) -> &'static [u8] {
+    match why {
+        Refused::BadShape =>
+            b"repair: sheet.bin is not 68 N bytes long for an N of 1, 2, 4, .. 512; no strip was read\n",
+        _ => b"repair: choice.bin is not two bytes long; no strip was read\n",
+    }
 }
 
 // How many bytes of each buffer are to be written.
@@ -63,224 +68,155 @@ struct Sizes {
     records: usize,
 }
 
-// Says s on standard error.
-fn say(streams: &Streams, s: &[u8]) {
-    streams.say(s);
+// The sheet, the choice and the marks, as they were read.
+#[derive(Clone, Copy)]
+struct Lot<'a> {
+    sheet: &'a [u8],
+    choice: &'a [u8],
+    lost: &'a [u8],
 }
 
-// Fills in the parts and records of the first `got` bytes of the input, and answers how many bytes they are.
-fn fill(
-    sheet: &[u8],
-    choice: &[u8],
-    lost: &[u8],
-    input: &[u8],
-    got: usize,
-    repaired: &mut [u8],
-    records: &mut [u8],
-) -> Sizes
-    requires { (got ≤ length input.now) × Room sheet.now choice.now (take got input.now) (length repaired.old) (length records.old) }
-    ensures { Filled sheet.now choice.now lost.now (take got input.now) repaired.old repaired.new records.old records.new result.repaired result.records }
-{
-    let p = strip_stream::parts(sheet, choice, &input[0..got]);
-    let k = strip_stream::count(sheet, choice, &input[0..got]);
-    strip_stream::answer(sheet, choice, lost, &input[0..got], repaired, records);
-    Sizes {
-        repaired: p * strip_stream::part(sheet),
-        records: k * limits::HEAD,
+impl<'a> Lot<'a> {
+    // The lot, where its strips can be answered, or why they cannot.
+    fn fit(self) -> Result<Fit<'a>, Refused>
+        ensures { OnErr result ((record_count self.entry.sheet.now self.entry.choice.now [] ≡ 1) × (part_count self.entry.sheet.now self.entry.choice.now [] ≡ 0)) }
+    {
+        let t = stream::agreed(self.sheet, self.choice)?;
+        Ok(Fit {
+            lot: self,
+            run: SHORTEST << t.n,
+        })
     }
-}
 
-// Writes s to a file, or says behind `label` that it cannot; answers whether it could.
-fn write<W: Write>(streams: &Streams, to: &mut W, s: &[u8], label: &[u8]) -> bool {
-    streams.write(to, s, label)
-}
-
-// Answers the first `got` bytes of the input, writes their parts to standard output and their records to `file`; answers whether
-// it could.
-fn answer(
-    streams: &Streams,
-    file: &mut File,
-    sheet: &[u8],
-    choice: &[u8],
-    lost: &[u8],
-    input: &[u8],
-    got: usize,
-    repaired: &mut [u8],
-    records: &mut [u8],
-) -> bool
-    requires { (got ≤ length input.now) × Room sheet.now choice.now (take got input.now) (length repaired.old) (length records.old) }
-{
-    let k = fill(sheet, choice, lost, input, got, repaired, records);
-    let p = k.repaired;
-    let r = k.records;
-    let first = write(
-        streams,
-        &mut streams.output(),
-        &repaired[0..p],
-        b"repair: standard output, strips are missing",
-    );
-    let second = write(
-        streams,
-        file,
-        &records[0..r],
-        b"repair: the records, some are missing",
-    );
-    first && second
-}
-
-// Reads a run of strips, answers it and answers whether to go on. A read that fails ends the input, and is said.
-fn turn(
-    streams: &Streams,
-    file: &mut File,
-    sheet: &[u8],
-    choice: &[u8],
-    lost: &[u8],
-    input: &mut [u8],
-    repaired: &mut [u8],
-    records: &mut [u8],
-) -> bool
-    requires { Ready sheet.now choice.now (length input.old) (length repaired.old) (length records.old) }
-{
-    let got = streams.read(input);
-    let written = answer(
-        streams, file, sheet, choice, lost, input, got.n, repaired, records,
-    );
-    if written && !intake::whole(got.n, input.len(), got.last) {
-        streams.fail(
-            b"repair: standard input, the strips after this point are not answered",
-            got.why,
+    // Fills in the parts and records of strips, and answers how many bytes they are.
+    fn fill(&self, strips: &[u8], repaired: &mut [u8], records: &mut [u8]) -> Sizes
+        requires { Room self.now.sheet.now self.now.choice.now strips.now (length repaired.old) (length records.old) }
+        ensures { Filled self.now.sheet.now self.now.choice.now self.now.lost.now strips.now repaired.old repaired.new records.old records.new result.repaired result.records }
+    {
+        let p = strip_stream::parts(self.sheet, self.choice, strips);
+        let k = strip_stream::count(self.sheet, self.choice, strips);
+        let _ = strip_stream::answer(
+            self.sheet,
+            self.choice,
+            self.lost,
+            strips,
+            repaired,
+            records,
         );
+        Sizes {
+            repaired: p * strip_stream::part(self.sheet),
+            records: k * limits::HEAD,
+        }
     }
-    intake::goes_on(written, got.n, input.len())
+
+    // Answers strips, writes their parts to standard output and their records to `file`; answers whether it could.
+    fn answer(
+        &self,
+        streams: &Streams,
+        file: &mut File,
+        strips: &[u8],
+        repaired: &mut [u8],
+        records: &mut [u8],
+    ) -> bool
+        requires { Room self.now.sheet.now self.now.choice.now strips.now (length repaired.old) (length records.old) }
+    {
+        let k = self.fill(strips, repaired, records);
+        let first = streams.write(
+            &mut streams.output(),
+            &repaired[..k.repaired],
+            b"repair: standard output, strips are missing",
+        );
+        let second = streams.write(
+            file,
+            &records[..k.records],
+            b"repair: the records, some are missing",
+        );
+        first && second
+    }
+
+    // Says why no strip is read, and writes the one record that there is without a strip.
+    fn refuse(
+        &self,
+        streams: &Streams,
+        why: Refused,
+        file: &mut File,
+        repaired: &mut [u8],
+        records: &mut [u8],
+    )
+        requires { (record_count self.now.sheet.now self.now.choice.now [] ≡ 1) × (part_count self.now.sheet.now self.now.choice.now [] ≡ 0) × (head_bytes ≤ length records.old) }
+    {
+        streams.say(text(why));
+        self.answer(streams, file, &[], repaired, records);
+    }
 }
 
-// Answers runs until one is the last. They are counted, since a proved loop has to end and nothing says that the input does;
-// no run of the program counts so many.
-fn turns(
-    streams: &Streams,
-    file: &mut File,
-    sheet: &[u8],
-    choice: &[u8],
-    lost: &[u8],
-    input: &mut [u8],
-    repaired: &mut [u8],
-    records: &mut [u8],
-) -> Progress
-    requires { Ready sheet.now choice.now (length input.old) (length repaired.old) (length records.old) }
-    ensures { Ends result.made result.more }
-{
-    let mut made = 0u64;
-    let mut more = true;
-    while more && made < u64::MAX {
-        more = turn(streams, file, sheet, choice, lost, input, repaired, records);
-        made += 1;
-    }
-    Progress { made, more }
+// A lot whose strips can be answered, and the bytes of a run of its strips.
+#[derive(Clone, Copy)]
+struct Fit<'a> {
+    lot: Lot<'a>,
+    run: usize,
+    ghost ready: { Ready lot.sheet.now lot.choice.now run (run_strips * part_bytes largest_n) (run_strips * head_bytes) },
+    ghost within: { run ≤ run_strips * strip_bytes largest_n },
 }
 
-// Answers all runs.
-fn run(
-    streams: &Streams,
-    file: &mut File,
-    sheet: &[u8],
-    choice: &[u8],
-    lost: &[u8],
-    input: &mut [u8],
-    repaired: &mut [u8],
-    records: &mut [u8],
-)
-    requires { Ready sheet.now choice.now (length input.old) (length repaired.old) (length records.old) }
-{
-    let t = turns(streams, file, sheet, choice, lost, input, repaired, records);
-    if t.more {
-        say(streams, b"repair: too many strips\n");
+impl Fit<'_> {
+    // Reads a run of strips, answers it and answers whether to go on. A read that fails ends the input, and is said.
+    // The file and the rooms are parameters: of a struct that held them the check asks whether each turn leaves it the same rooms,
+    // which calls of a closure do not tell.
+    fn turn(
+        &self,
+        streams: &Streams,
+        file: &mut File,
+        input: &mut [u8; INPUT],
+        repaired: &mut [u8; REPAIRED],
+        records: &mut [u8; RECORDS],
+    ) -> bool {
+        let run = &mut input[..self.run];
+        let got = streams.read(run);
+        let written = self
+            .lot
+            .answer(streams, file, &run[..got.n], repaired, records);
+        if written && let End::Failed(why) = got.end {
+            streams.fail(
+                b"repair: standard input, the strips after this point are not answered",
+                Some(why),
+            );
+        }
+        intake::goes_on(written, got.n, run.len())
     }
-}
 
-// Says why no strip is read, and writes the one record that there is without a strip.
-fn refuse(
-    streams: &Streams,
-    why: &[u8],
-    file: &mut File,
-    sheet: &[u8],
-    choice: &[u8],
-    lost: &[u8],
-    input: &[u8],
-    repaired: &mut [u8],
-    records: &mut [u8],
-)
-    requires { (record_count sheet.now choice.now [] ≡ 1) × (part_count sheet.now choice.now [] ≡ 0) × (head_bytes ≤ length records.old) }
-{
-    say(streams, why);
-    answer(
-        streams, file, sheet, choice, lost, input, 0, repaired, records,
-    );
+    // Answers runs until one is the last.
+    fn turns(
+        &self,
+        streams: &Streams,
+        file: &mut File,
+        input: &mut [u8; INPUT],
+        repaired: &mut [u8; REPAIRED],
+        records: &mut [u8; RECORDS],
+    ) -> Progress
+        ensures { Ends result.made result.more }
+    {
+        intake::turns(|| self.turn(streams, file, input, repaired, records))
+    }
 }
 
 // Answers the strips on standard input; where the sheet or the choice has a wrong length, reads none.
 fn serve(
     streams: &Streams,
     file: &mut File,
-    sheet: &[u8],
-    choice: &[u8],
-    lost: &[u8],
-    input: &mut [u8],
-    repaired: &mut [u8],
-    records: &mut [u8],
-)
-    requires { (length input.old ≡ run_strips * strip_bytes largest_n) × (length repaired.old ≡ run_strips * part_bytes largest_n) × (length records.old ≡ run_strips * head_bytes) }
-{
-    let n = stream::n_of(sheet);
-    if limits::LARGEST_N < n {
-        refuse(
-            streams,
-            b"repair: sheet.bin is not 68 N bytes long for an N of 1, 2, 4, .. 512; no strip was read\n",
-            file,
-            sheet,
-            choice,
-            lost,
-            input,
-            repaired,
-            records,
-        );
-    } else if choice.len() != 2 {
-        refuse(
-            streams,
-            b"repair: choice.bin is not two bytes long; no strip was read\n",
-            file,
-            sheet,
-            choice,
-            lost,
-            input,
-            repaired,
-            records,
-        );
-    } else {
-        run(
-            streams,
-            file,
-            sheet,
-            choice,
-            lost,
-            &mut input[0..SHORTEST << n],
-            repaired,
-            records,
-        );
+    lot: Lot,
+    input: &mut [u8; INPUT],
+    repaired: &mut [u8; REPAIRED],
+    records: &mut [u8; RECORDS],
+) {
+    match lot.fit() {
+        Ok(fit) => {
+            if fit.turns(streams, file, input, repaired, records).more {
+                streams.say(b"repair: too many strips\n");
+            }
+        }
+        Err(why) => lot.refuse(streams, why, file, repaired, records),
     }
-}
-
-// Room for the strips of a run.
-fn strips_room() -> [u8; INPUT]
-    ensures { length result ≡ run_strips * strip_bytes largest_n }
-{
-    [0; INPUT]
-}
-
-// Room for their parts.
-fn parts_room() -> [u8; REPAIRED]
-    ensures { length result ≡ run_strips * part_bytes largest_n }
-{
-    [0; REPAIRED]
 }
 
 // Reads the three files, makes the room for a run, once, and serves.
@@ -288,32 +224,26 @@ fn work(streams: &Streams, file: &mut File, marks: &[u8]) {
     let mut sheet = [0u8; SHEET];
     let mut choice = [0u8; CHOICE];
     let mut lost = [0u8; MARKS];
-    let s = files::load_sheet(streams, &mut sheet);
-    let c = files::load_choice(streams, &mut choice);
-    let l = files::load_marks(streams, marks, &mut lost);
-    let mut input = strips_room();
-    let mut repaired = parts_room();
+    prove!(LONGEST < sheet.len());
+    prove!(PAIR < choice.len());
+    prove!(limits::POSITIONS < lost.len());
+    let lot = Lot {
+        sheet: intake::read_file(streams, b"sheet.bin", b"repair: sheet.bin", &mut sheet),
+        choice: intake::read_file(streams, b"choice.bin", b"repair: choice.bin", &mut choice),
+        lost: intake::read_file(streams, marks, b"repair: the marks", &mut lost),
+    };
+    let mut input = [0u8; INPUT];
+    let mut repaired = [0u8; REPAIRED];
     let mut records = [0u8; RECORDS];
-    serve(
-        streams,
-        file,
-        &sheet[0..s],
-        &choice[0..c],
-        &lost[0..l],
-        &mut input,
-        &mut repaired,
-        &mut records,
-    );
+    serve(streams, file, lot, &mut input, &mut repaired, &mut records);
 }
 
-// Puts argument i to the start of name, and answers how many bytes it has; 0 where there is none, or no room for it.
+// Puts argument i to the start of name, and answers how many bytes it has; 0 where there is none, or no room for it: what
+// has no name cannot be opened, and that is said.
 fn argument(streams: &Streams, i: usize, name: &mut [u8]) -> usize
     ensures { result ≤ length name.new }
 {
-    match streams.runtime().arg(i, name) {
-        Ok(n) => n,
-        Err(_) => 0,
-    }
+    streams.runtime().arg(i, name).unwrap_or(0)
 }
 
 // Opens the file of the records, and works.

@@ -6,9 +6,20 @@ use Rattle.meaning.specs.Limits.{head_bytes}
 use Rattle.meaning.specs.Stream.{two_bytes, header}
 use Rattle.meaning.proofs.Heading.{two_bytes_lem}
 use Rattle.meaning.specs.declared.Answer.TheVariants.{Unique, Ambiguous, BadRecord, BadSymbol, TooMany}
-use Rattle.show.specs.Text.{bytes, decimal, wide}
-use Rattle.show.proofs.Choosing.{line_is}
-use Rattle.show.specs.Line.{verdict, between, no_answer, plain_of, refusal_of, said_of, line_of}
+use Rattle.show.specs.Text.{bytes, decimal, wide, Written}
+use Rattle.show.proofs.Writing.{spelt, ◌then◌}
+use Rattle.show.specs.Line.{number_at, verdict, between, no_answer, plain_of, refusal_of, said_of, line_of}
+
+-- the five numbers of a record
+module _ (r : List ℕ) {code place g m d : ℕ} where
+  pub line_is : code ≡ number_at r 0 → place ≡ number_at r 2 → g ≡ number_at r 4 → m ≡ number_at r 6 → d ≡ number_at r 8 → said_of code place g m d ++ 10 ∷ [] ≡ line_of r
+  unfolding line_of
+  line_is p q s t u = cc
+
+  -- what is said, then the end of the line
+  pub lined : {a b c : List ℕ} {k n : ℕ} → code ≡ number_at r 0 → place ≡ number_at r 2 → g ≡ number_at r 4 → m ≡ number_at r 6 → d ≡ number_at r 8
+      → Written a b 0 k (said_of code place g m d) → Written b c k n (10 ∷ []) → Written a c 0 n (line_of r)
+  lined p q s t u w e = spelt (w then e) (line_is p q s t u)
 
 pub line_of_numbers : (strips : List ℕ) (code place g m d : ℕ) → code < 65536 → place < 65536 → g < 65536 → m < 65536 → d < 65536
     → line_of (flatten (map two_bytes (code ∷ place ∷ g ∷ m ∷ d ∷ [])) ++ strips) ≡ said_of code place g m d ++ 10 ∷ []

@@ -11,19 +11,12 @@ ghost use Rattle.show.specs.Turn.{written};
 mod line;
 mod text;
 
-use intake::Streams;
+use intake::{Progress, Streams};
 use meaning::limits;
 use std::process::ExitCode;
 
 // Bytes of the longest line.
 const LONGEST: usize = 110;
-
-// How many turns were made, and whether there was more to come.
-#[derive(Clone, Copy)]
-pub struct Run {
-    pub made: u64,
-    pub more: bool,
-}
 
 // Puts the line of a record to the start of out, or nothing where fewer bytes than a record were got; answers how long it is.
 fn shown(answer: &[u8], got: usize, out: &mut [u8]) -> usize
@@ -47,26 +40,17 @@ fn write(streams: &Streams, s: &[u8]) -> bool {
 }
 
 // Reads a record and writes its line; answers whether to go on.
-fn turn(streams: &Streams, answer: &mut [u8], out: &mut [u8]) -> bool
-    requires { (length answer.old ≡ answer_bytes) × (longest_line ≤ length out.old) }
-{
+fn turn(streams: &Streams, answer: &mut [u8; limits::ANSWER], out: &mut [u8; LONGEST]) -> bool {
     let got = streams.read(answer);
     let k = shown(answer, got.n, out);
-    intake::goes_on(write(streams, &out[0..k]), got.n, limits::ANSWER)
+    intake::goes_on(write(streams, &out[..k]), got.n, limits::ANSWER)
 }
 
-// Turns until one answers that there is no more, or until no more can be counted.
-fn turns(streams: &Streams, answer: &mut [u8], out: &mut [u8]) -> Run
-    requires { (length answer.old ≡ answer_bytes) × (longest_line ≤ length out.old) }
+// Turns until one answers that there is no more.
+fn turns(streams: &Streams, answer: &mut [u8; limits::ANSWER], out: &mut [u8; LONGEST]) -> Progress
     ensures { Ends result.made result.more }
 {
-    let mut made = 0u64;
-    let mut more = true;
-    while more && made < u64::MAX {
-        more = turn(streams, answer, out);
-        made += 1;
-    }
-    Run { made, more }
+    intake::turns(|| turn(streams, answer, out))
 }
 
 fn main(rt: HostRuntime) -> ExitCode {

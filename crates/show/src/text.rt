@@ -9,24 +9,19 @@ pub fn put(out: &mut [u8], at: usize, s: &[u8]) -> usize
     requires { at + length s.now ≤ length out.old }
     ensures { Written out.old out.new at result s.now }
 {
-    let mut i = 0;
-    while i < s.len() {
-        out[at + i] = s[i];
-        i += 1;
-    }
-    at + i
+    let end = at + s.len();
+    out[at..end].copy_from_slice(s);
+    end
 }
 
-// The spaces that make a text of k bytes `width` long, at most 20.
+// The spaces that make a text of k bytes `width` long.
 fn pad(out: &mut [u8], at: usize, k: usize, width: usize) -> usize
-    requires { (width ≤ 20) × (at + (width - k) ≤ length out.old) }
+    requires { at + (width - k) ≤ length out.old }
     ensures { Written out.old out.new at result (replicate (width - k) 32) }
 {
-    let spaces = [b' '; 20];
-    if k < width {
-        return put(out, at, &spaces[0..width - k]);
-    }
-    at
+    let end = at + width.saturating_sub(k);
+    out[at..end].fill(b' ');
+    end
 }
 
 // A number, with spaces before it up to `width` places. 20 digits hold any number.

@@ -1,5 +1,5 @@
--- What the bytes of a request's header say, which bytes an answer starts with, and how much room there is. Numbers are low byte first.
-use Rattle.std.specs.Prelude.{ℕ, ◌+◌, ◌*◌, ◌%◌, ◌≡◌, List, length, get_or}
+-- What the bytes of a request's header say, and which bytes an answer starts with. Numbers are low byte first.
+use Rattle.std.specs.Prelude.{ℕ, ◌+◌, ◌*◌, ◌%◌, ◌≡◌, List, get_or}
 use Rattle.trial.specs.declared.Request.{Request}
 
 -- the number in the two bytes of h from i on
@@ -29,11 +29,3 @@ Stands v s i = two_at s (i + i) ≡ get_or v i 0 % 65536
 -- the five numbers of v stand in s, one after the other
 abbrev pub Spells : List ℕ → List ℕ → Type 0
 Spells v s = Stands v s 0 × Stands v s 1 × Stands v s 2 × Stands v s 3 × Stands v s 4
-
--- the most bytes that a request may ask for as its output
-abbrev pub most_out : ℕ
-most_out = 140000
-
--- there is room for the most that a request may give and ask for
-abbrev pub HasRoom : List ℕ → List ℕ → Type 0
-HasRoom room out = (length room ≡ 120000) × (length out ≡ most_out)

@@ -3,8 +3,8 @@
 // says what a request and an answer are. Numbers are low byte first.
 #![tactic(auto)]
 
-ghost use Rattle.std.specs.Prelude.{◌≡◌, ◌+◌, ◌<◌, ◌≤◌, ◌%◌, ◌/◌, length, replicate};
-ghost use Rattle.trial.specs.Layout.{two_at, four_at, Says, Spells, HasRoom, most_out};
+ghost use Rattle.std.specs.Prelude.{◌≡◌, ◌+◌, ◌<◌, ◌≤◌, ◌%◌, length};
+ghost use Rattle.trial.specs.Layout.{two_at, four_at, Says, Spells};
 
 mod ops;
 
@@ -15,6 +15,9 @@ use std::process::ExitCode;
 
 // The most bytes that a request may give for each of a, b and c.
 const MOST: usize = 40000;
+
+// Room for all three.
+const ROOM: usize = 3 * MOST;
 
 // The most bytes that a request may ask for as its output.
 const MOST_OUT: usize = 140000;
@@ -32,46 +35,29 @@ struct Request {
     o: usize,
 }
 
-// What a call came to: an answer, the bytes that a view has, or nothing where no call has the op.
-#[derive(Clone, Copy)]
-enum Reply {
-    Answered(Answer),
-    Viewed(usize),
-    Unknown,
-}
-
-// The call that op names, on the numbers and bytes of a request. A new op is a new arm.
-fn call(
-    op: usize,
-    n: usize,
-    r: usize,
-    ceiling: usize,
-    a: &[u8],
-    b: &[u8],
-    c: &[u8],
-    out: &mut [u8],
-) -> Reply
-    requires { length out.old ≤ most_out }
-{
-    match op {
-        0 => Reply::Answered(sheet::check_sheet(n, a, r)),
-        1 => Reply::Answered(codec::encode(n, a, r, b, out)),
-        2 => Reply::Answered(decoder::decode(n, a, r, ceiling, b, out)),
-        3 => Reply::Answered(codec::read_back(n, a, r, b, out)),
-        4 => Reply::Answered(stream::answer(a, c, b, out)),
-        5 => Reply::Answered(sheet_convert::convert(n, a, out)),
-        7 => Reply::Answered(strips::repair(n, a, r, ceiling, b, c, out)),
-        8 => Reply::Viewed(ops::put_view(a, n, r, out)),
-        15 => Reply::Answered(ops::repair_strips(n, r, a, c, b, out)),
-        _ => Reply::Unknown,
-    }
-}
-
-// A byte as a number.
-fn wide(x: u8) -> usize
-    ensures { (result ≡ x) × (result < 256) }
-{
-    x as usize
+// The five numbers of what the call that a request names answers, on its numbers and bytes: of a view, how many bytes it
+// has stand for the place. None where no call has the op. A new op is a new arm: an op is a number of the request, not a kind.
+fn call(q: Request, a: &[u8], b: &[u8], c: &[u8], out: &mut [u8]) -> Option<[usize; 5]> {
+    let Request {
+        op,
+        n,
+        r,
+        ceiling,
+        ..
+    } = q;
+    let answer: Answer = match op {
+        0 => sheet::check_sheet(n, a, r).into(),
+        1 => codec::encode(n, a, r, b, out).into(),
+        2 => decoder::decode(n, a, r, ceiling, b, out).into(),
+        3 => codec::read_back(n, a, r, b, out).into(),
+        4 => stream::answer(a, c, b, out).into(),
+        5 => sheet_convert::convert(n, a, out).into(),
+        7 => strips::repair(n, a, r, ceiling, b, c, out).into(),
+        8 => return Some([0, ops::put_view(a, n, r, out), 0, 0, 0]),
+        15 => ops::repair_strips(n, r, a, c, b, out).into(),
+        _ => return None,
+    };
+    Some(answers::numbers(answer))
 }
 
 // The number that stands in two bytes of a header.
@@ -79,7 +65,7 @@ fn two(head: &[u8; 24], at: usize) -> usize
     requires { at + 1 < 24 }
     ensures { (result ≡ two_at head.now at) × (result < 65536) }
 {
-    wide(head[at]) + 256 * wide(head[at + 1])
+    usize::from(u16::from_le_bytes([head[at], head[at + 1]]))
 }
 
 // The number that stands in four bytes of a header.
@@ -106,45 +92,19 @@ fn parse(head: &[u8; 24]) -> Request
     }
 }
 
-// The lower of the two bytes of a number.
-fn low(x: usize) -> u8
-    ensures { result ≡ x % 256 }
-{
-    (x % 256) as u8
-}
-
-// The higher of the two bytes of a number.
-fn high(x: usize) -> u8
-    ensures { result ≡ x / 256 % 256 }
-{
-    (x / 256 % 256) as u8
-}
-
 // The ten bytes that an answer starts with.
 fn start(v: [usize; 5]) -> [u8; 10]
     ensures { Spells v result }
 {
+    let [code, place, g, m, d] = v;
+    let code = answers::two_bytes(code);
+    let place = answers::two_bytes(place);
+    let g = answers::two_bytes(g);
+    let m = answers::two_bytes(m);
+    let d = answers::two_bytes(d);
     [
-        low(v[0]),
-        high(v[0]),
-        low(v[1]),
-        high(v[1]),
-        low(v[2]),
-        high(v[2]),
-        low(v[3]),
-        high(v[3]),
-        low(v[4]),
-        high(v[4]),
+        code[0], code[1], place[0], place[1], g[0], g[1], m[0], m[1], d[0], d[1],
     ]
-}
-
-// Puts 165 into every byte of out.
-fn blank(out: &mut [u8])
-    ensures { out.new ≡ replicate (length out.old) 165 }
-{
-    for i in 0..out.len() {
-        out[i] = 165;
-    }
 }
 
 // Fills s from standard input; answers whether there was enough.
@@ -163,63 +123,38 @@ fn write(streams: &Streams, s: &[u8]) -> bool {
 
 // Makes the call of a request on its body (a, b, c) and writes the answer; answers whether to go on.
 fn respond(streams: &Streams, q: Request, body: &[u8], out: &mut [u8]) -> bool
-    requires { (q.a + q.b + q.c ≡ length body.now) × (length out.old ≤ most_out) }
+    requires { q.a + q.b + q.c ≡ length body.now }
 {
-    let i = q.a;
-    let j = i + q.b;
-    match call(
-        q.op,
-        q.n,
-        q.r,
-        q.ceiling,
-        &body[0..i],
-        &body[i..j],
-        &body[j..],
-        out,
-    ) {
-        Reply::Answered(answer) => write(streams, &start(answers::numbers(answer)))
-            && write(streams, out),
-        Reply::Viewed(bytes) => write(streams, &start([0, bytes, 0, 0, 0])) && write(streams, out),
-        Reply::Unknown => false,
+    let (a, rest) = body.split_at(q.a);
+    let (b, c) = rest.split_at(q.b);
+    match call(q, a, b, c, out) {
+        Some(numbers) => write(streams, &start(numbers)) && write(streams, out),
+        None => false,
     }
 }
 
 // Reads the body of a request into the part lent for it, and responds; answers whether to go on.
 fn serve(streams: &Streams, q: Request, body: &mut [u8], out: &mut [u8]) -> bool
-    requires { (q.a + q.b + q.c ≡ length body.old) × (length out.old ≤ most_out) }
+    requires { q.a + q.b + q.c ≡ length body.old }
 {
     if !read(streams, body) {
         return false;
     }
-    blank(out);
+    out.fill(165);
     respond(streams, q, body, out)
 }
 
 // Serves a request in the room lent, if it asks for no more; answers whether to go on.
-fn place(streams: &Streams, q: Request, room: &mut [u8], out: &mut [u8]) -> bool
-    requires { HasRoom room.old out.old }
-{
-    if MOST < q.a {
-        return false;
-    }
-    if MOST < q.b {
-        return false;
-    }
-    if MOST < q.c {
+fn place(streams: &Streams, q: Request, room: &mut [u8; ROOM], out: &mut [u8; MOST_OUT]) -> bool {
+    if MOST < q.a || MOST < q.b || MOST < q.c || MOST_OUT < q.o {
         return false;
     }
     let n = q.a + q.b + q.c;
-    let o = q.o;
-    if MOST_OUT < o {
-        return false;
-    }
-    serve(streams, q, &mut room[0..n], &mut out[0..o])
+    serve(streams, q, &mut room[..n], &mut out[..q.o])
 }
 
 // Takes one request from its header on, in the room lent; answers whether to go on.
-fn turn(streams: &Streams, room: &mut [u8], out: &mut [u8]) -> bool
-    requires { HasRoom room.old out.old }
-{
+fn turn(streams: &Streams, room: &mut [u8; ROOM], out: &mut [u8; MOST_OUT]) -> bool {
     let mut head = [0u8; 24];
     if !read(streams, &mut head) {
         return false;
@@ -227,22 +162,11 @@ fn turn(streams: &Streams, room: &mut [u8], out: &mut [u8]) -> bool
     place(streams, parse(&head), room, out)
 }
 
-// Takes requests until one is not answered. It counts down, from a number that no run uses up, since a
-// proved loop has to end and nothing says that the input does.
-fn turns(streams: &Streams, room: &mut [u8], out: &mut [u8])
-    requires { HasRoom room.old out.old }
-{
-    let mut left = u64::MAX;
-    while left > 0 && turn(streams, room, out) {
-        left -= 1;
-    }
-}
-
 // Makes the room for a body and for the output, once, and takes the requests.
 fn main(rt: HostRuntime) -> ExitCode {
     let streams = Streams::new(rt);
-    let mut room = [0u8; 3 * MOST];
+    let mut room = [0u8; ROOM];
     let mut out = [0u8; MOST_OUT];
-    turns(&streams, &mut room, &mut out);
+    intake::turns(|| turn(&streams, &mut room, &mut out));
     streams.status()
 }

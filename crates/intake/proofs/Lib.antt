@@ -1,2 +1,0 @@
--- Decisions: tests of signed numbers, and that reading ends.
-pub mod Decisions

@@ -1,9 +1,0 @@
-use Rattle.meaning.specs.Limits.{head_bytes, strip_width}
-use Rattle.meaning.specs.Stream.{answer_bytes}
-use Rattle.show.specs.Line.{plain_of, longest_line}
-use borrow.Author.Rules.{rules}
-use Rattle.show.proofs.main.Goals as goal
-
-pub turns-requires : goal.turns-requires
-unfolding answer_bytes head_bytes strip_width plain_of longest_line
-turns-requires c = search rules
