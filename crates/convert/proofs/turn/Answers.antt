@@ -11,3 +11,7 @@ overflow_mul-k c = omega (arith, new-fits _ _ _ _ _ c.in-Ok.ensures refl)
 pub slice_bounds-write-end-in-Ok : goal.slice_bounds-write-end-in-Ok
 unfolding record_bytes mask_bytes old_record_bytes old_mask_bytes
 slice_bounds-write-end-in-Ok c = let h = new-fits _ _ _ _ _ c.in-Ok.ensures refl in sym (length-take-le _ _ (omega (arith, h)))
+
+pub slice_bounds-write-end : goal.slice_bounds-write-end
+unfolding record_bytes mask_bytes old_record_bytes old_mask_bytes
+slice_bounds-write-end c = omega (arith, new-fits _ _ _ _ _ c.in-Ok.ensures refl)
