@@ -6,10 +6,11 @@ ghost use Rattle.bits.specs.Bytes.{EightOf};
 pub fn eight(s: &[u8], at: usize) -> u64
     ensures { EightOf s.now at result }
 {
-    match s.get(at..).and_then(|rest| rest.first_chunk::<8>()) {
-        Some(word) => u64::from_le_bytes(*word),
-        None => 0,
+    if s.len() < 8 || s.len() - 8 < at {
+        return 0;
     }
+    let word = s[at..].first_chunk::<8>().unwrap();
+    u64::from_le_bytes(*word)
 }
 
 // As many bytes of `from` as `to` has room for go to its start. The others stay.

@@ -164,17 +164,17 @@ module _ (l r before others y after : List ℕ) (i c w : ℕ) (hl : length l % w
       rw (e, add-zero n, at_i, o) refl
 
   pub step-some : (b a q : List ℕ) (k j n : ℕ) → lead c y ≡ suc (64 * k + j) → j < 64
-      → b ≡ over (length y) (length before / length y) (clear_at k j y) before
-      → a ≡ over (length y) (length after / length y) (clear_at k j y) after
-      → q ≡ over (length y) (length r / length y) (clear_at k j y) r
+      → b ≡ over (length y) i (clear_at k j y) before
+      → a ≡ over (length y) (m - i - 1) (clear_at k j y) after
+      → q ≡ over (length y) (length r / w) (clear_at k j y) r
       → sys (rows_of w (b ++ (y ++ a))) (rows_of w q) (n + 1) ≡ step c i (sys (rows_of w l) (rows_of w r) n)
   unfolding pass
   step-some b a q k j n le jl e₁ e₂ e₃ =
       let f : Row → Row = clear_at k j y in
       let kf : Keeps w f = clear-keeps w k j y len_y in
       let ge : length r ≡ length r / w * w = whole-rows (length r) w hr in
-      let fb : b ≡ over w i f (take (i * w) l) = e₁ ∙ rw (len_y, eb, div-eq_of_eq-mul_left hw (len_before l m i w given hi f kf)) refl in
-      let fa : a ≡ over w (m - i - 1) f (drop w (drop (i * w) l)) = e₂ ∙ rw (len_y, ea, eo, div-eq_of_eq-mul_left hw (len_after l m i w given hi f kf)) refl in
+      let fb : b ≡ over w i f (take (i * w) l) = e₁ ∙ rw (len_y, eb) refl in
+      let fa : a ≡ over w (m - i - 1) f (drop w (drop (i * w) l)) = e₂ ∙ rw (len_y, ea, eo) refl in
       let fq : q ≡ over w (length r / w) f r = e₃ ∙ rw len_y refl in
       let left : rows_of w (b ++ (y ++ a)) ≡ set (map f (rows_of w l)) i y =
       ap (rows_of w) (ap₂ {C = List ℕ} ◌++◌ fb (ap₂ {C = List ℕ} ◌++◌ y_is fa))

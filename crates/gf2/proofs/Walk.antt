@@ -1,8 +1,8 @@
 -- What a turn of a sweep does to the list of words: rows swept one by one.
 --     togo, Turn                    what is swept and what is to do; a turn of a sweep
---     row_in, added_row             where row i lies; a row added
+--     rows_behind, added_row        how many words the rows behind row i have; a row added
 --     sweep_next, sweep_end         a turn of `sweep`, and its end
-use mathlib.Core.Path.{◌≡◌, refl, ap, ◌∙◌}
+use mathlib.Core.Path.{◌≡◌, refl, sym, ap, ◌∙◌}
 use mathlib.Core.Logic.{◌⊎◌, inl, inr}
 use Prim.Native.Nat.{ℕ, zero, suc, ◌+◌, ◌-◌, ◌*◌, ◌/◌, ◌≤◌, ◌<◌}
 use native.Mathlib.Omega.{arith}
@@ -17,7 +17,7 @@ use Rattle.bits.specs.Rows.{Row, ◌⊻◌, has_at, part, added}
 use Rattle.gf2.specs.Solve.{clear_at}
 use Rattle.gf2.specs.Inner.{over}
 use Rattle.bits.proofs.RowXor.{length-⊻}
-use Rattle.bits.proofs.RowLaws.{length_part, get_or_part, row_fit}
+use Rattle.bits.proofs.RowLaws.{length_part, get_or_part}
 use Rattle.bits.proofs.RowsWritten.{added-fits}
 
 -- bit j of word k of the row at a
@@ -69,23 +69,27 @@ pub togo_none : (w n : ℕ) (f : Row → Row) (l : List ℕ) (a : ℕ) → n ≡
 unfolding over
 togo_none w n f l a e = rw e (take-append-drop a l)
 
--- row i of the whole rows of n words
-pub row_in : (n i w : ℕ) → i < n / w → i * w + w ≤ n
-row_in n i w h = let p = row_fit i (n / w) w h in let q = div-mul-le_self n w in omega arith
+-- the rows behind row i of the whole rows of n words
+pub rows_behind : (n i w : ℕ) → i < n / w → i * w + w + (n / w - i - 1) * w ≤ n
+rows_behind n i w h =
+    let k = n / w - i - 1 in
+    let e : n / w ≡ i + suc k = omega arith in
+    let p : i * w + w + k * w ≡ (i + suc k) * w = omega arith in
+    let q = div-mul-le_self n w in
+    let r : (i + suc k) * w ≡ n / w * w = ap (λ (x : ℕ). x * w) (sym e) in omega arith
 
 -- a row added
 pub added_row : (l row : List ℕ) (a : ℕ) → a + length row ≤ length l → added l a row 0 (length row) ≡ paste l a (part (length row) a l ⊻ row) (length row)
 added_row l row a h =
     added-fits l a row 0 (length row) h (omega arith) ∙ ap (λ (x : Row). paste l a (part (length row) a l ⊻ x) (length row)) (take_all (length row) row (omega arith))
 
--- a turn of `sweep`, and its end: of n rows of l those from row i on are to do
-module _ (l row : List ℕ) (n i k j : ℕ) where
-  pub sweep_next : (v : List ℕ) → i < n → k < length row → i * length row + length row ≤ length l → Turn l v row (i * length row) (length row) k j
-      → togo (length row) (n - (i + 1)) (clear_at k j row) v ((i + 1) * length row) ≡ togo (length row) (n - i) (clear_at k j row) l (i * length row)
+-- a turn of `sweep`, and its end: of n rows of l those from row i on are to do, the first of them at a
+module _ (l row : List ℕ) (n i a k j : ℕ) where
+  pub sweep_next : (v : List ℕ) → i < n → k < length row → a + length row ≤ length l → Turn l v row a (length row) k j
+      → togo (length row) (n - (i + 1)) (clear_at k j row) v (a + length row) ≡ togo (length row) (n - i) (clear_at k j row) l a
   sweep_next v h q r t =
-      let a : n - (i + 1) ≡ n - i - 1 = omega arith in
-      let b : (i + 1) * length row ≡ i * length row + length row = omega arith in
-      rw (a, b) (turn_togo l v row (i * length row) (length row) k j (n - i) (omega arith) q r refl t)
+      let p : n - (i + 1) ≡ n - i - 1 = omega arith in
+      rw p (turn_togo l v row a (length row) k j (n - i) (omega arith) q r refl t)
 
-  pub sweep_end : n ≤ i → togo (length row) (n - i) (clear_at k j row) l (i * length row) ≡ l
-  sweep_end h = togo_none (length row) (n - i) (clear_at k j row) l (i * length row) (omega arith)
+  pub sweep_end : n ≤ i → togo (length row) (n - i) (clear_at k j row) l a ≡ l
+  sweep_end h = togo_none (length row) (n - i) (clear_at k j row) l a (omega arith)

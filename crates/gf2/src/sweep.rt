@@ -1,5 +1,5 @@
 // The elimination itself, on slices whose shapes fit: rows swept, each equation in turn.
-ghost use Rattle.std.specs.Prelude.{◌≡◌, ℕ, ◌+◌, ◌/◌, ◌%◌, ◌≤◌, ◌<◌, length};
+ghost use Rattle.std.specs.Prelude.{◌≡◌, ℕ, ◌+◌, ◌*◌, ◌/◌, ◌%◌, ◌≤◌, ◌<◌, length};
 ghost use Rattle.bits.specs.Vectors.{bit};
 ghost use Rattle.bits.specs.Rows.{rows_of};
 ghost use Rattle.gf2.specs.Solve.{clear_at, sys, step, solve};
@@ -12,16 +12,18 @@ fn last_used(x: &[u64]) -> Option<usize>
     x.iter().rposition(|word| *word != 0)
 }
 
-// Adds `row` to those rows of `dst` that have bit j of word k. By number: after `chunks_exact_mut` a proof knows no element.
-fn sweep(dst: &mut [u64], row: &[u64], k: usize, j: u32)
-    requires { (k < length row.now) × (j < 64) }
-    ensures { let w = length row.now in dst.new ≡ over w (length dst.old / w) (clear_at k j row.now) dst.old }
+// Adds `row` to those of the n rows of `dst` that have bit j of word k. By place: after `chunks_exact_mut` a proof knows no element.
+fn sweep(dst: &mut [u64], n: usize, row: &[u64], k: usize, j: u32)
+    requires { (n * length row.now ≤ length dst.old) × (k < length row.now) × (j < 64) }
+    ensures { dst.new ≡ over (length row.now) n (clear_at k j row.now) dst.old }
 {
     let w = row.len();
-    for i in 0..dst.len() / w {
-        if (dst[i * w + k] >> j) % 2 == 1 {
-            bits::rows::add(dst, i * w, row, 0, w);
+    let mut at = 0;
+    for _ in 0..n {
+        if (dst[at + k] >> j) % 2 == 1 {
+            bits::rows::add(dst, at, row, 0, w);
         }
+        at += w;
     }
 }
 
@@ -31,15 +33,17 @@ fn pivot(eqs: &mut [u64], rest: &mut [u64], i: usize, c: usize, w: usize) -> boo
     ensures { (n : ℕ) → sys (rows_of w eqs.new) (rows_of w rest.new) (n + bit result)
         ≡ step c i (sys (rows_of w eqs.old) (rows_of w rest.old) n) }
 {
+    let m = eqs.len() / w;
+    let q = rest.len() / w;
     let (before, others) = eqs.split_at_mut(i * w);
     let (row, after) = others.split_at_mut(w);
     let Some(k) = last_used(&row[..c]) else {
         return false;
     };
     let j = 63 - row[k].leading_zeros();
-    sweep(before, row, k, j);
-    sweep(after, row, k, j);
-    sweep(rest, row, k, j);
+    sweep(before, i, row, k, j);
+    sweep(after, m - i - 1, row, k, j);
+    sweep(rest, q, row, k, j);
     true
 }
 

@@ -43,11 +43,13 @@ pub fn first_bad(sheet: &[u8]) -> Option<usize>
             break;
         }
         let from = barred_from(sheet, i);
+        let mut low = from % 64;
         for k in from / 64..MASK_WORDS {
-            if mask_word(sheet, i, k) >> from.saturating_sub(64 * k) != 0 {
+            if mask_word(sheet, i, k) >> low != 0 {
                 bad = Some(i);
                 break 'records;
             }
+            low = 0;
         }
     }
     bad

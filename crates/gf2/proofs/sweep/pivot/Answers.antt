@@ -4,6 +4,7 @@ use mir.Val.{Fits}
 use mir.Syntax.{w64}
 use lib.Seq.{length-take-le}
 use Rattle.gf2.proofs.Highest.{few_zeros, lead_word}
+use Rattle.gf2.proofs.Walk.{rows_behind}
 use Rattle.gf2.proofs.Glue.{seen, step-none, step-some}
 use Rattle.gf2.proofs.sweep.pivot.Goals as goal
 
@@ -22,6 +23,16 @@ overflow_sub-j c =
     let k : c.in-Some.k < c.args.c = let n = length-take-le c.args.c c.split_at_mut-row.result.0.now (omega arith) in omega (arith, K.0) in
     let s = seen _ _ _ H.3 R.front_len c.in-Some.k k in
     few_zeros c.args.c _ c.in-Some.k k (omega (arith, K.1, s.1)) (c.type_inv.row c.in-Some.k).fits
+
+pub sweep-requires-2 : goal.sweep-requires-2
+sweep-requires-2 c =
+    let H = c.requires in
+    let B = c.split_at_mut-before.ensures in
+    let R = c.split_at_mut-row.ensures in
+    let n = rows_behind _ _ c.args.w H.0 in
+    let K = c.in-Some.ensures in
+    let k : c.in-Some.k < c.args.c = let n = length-take-le c.args.c c.split_at_mut-row.result.0.now (omega arith) in omega (arith, K.0) in
+    (rw R.front_len (omega (arith, n, B.back_len, R.back_len)), omega arith, omega arith)
 
 pub returns : goal.returns
 returns c n =

@@ -13,17 +13,18 @@ loop-k-preserved c =
     let there = word_there _ _ _ _ c.loop-k-test.true (omega arith) c.mask_word.ensures in
     let e : 64 * (c.loop-k.k + 1) + (from - 64 * (c.loop-k.k + 1)) ≡ 64 * c.loop-k.k + 64 = omega arith in (
       c.loop-k.invariant.0,
+      omega arith,
       ap (λ (x : ℕ). zeros (drop x (mask c.args.sheet.now c.records.i))) e
-          ∙ sym (word_passed _ _ _ _ _ there (omega arith) (omega arith) (rw c.saturating_sub.ensures at c.if-mask_word-saturating_sub-ne0.false))
-          ∙ c.loop-k.invariant.1,
+          ∙ sym (word_passed _ _ _ _ _ there (omega arith) (omega arith) (rw c.loop-k.invariant.1 at c.if-mask_word-low-ne0.false))
+          ∙ c.loop-k.invariant.2,
     )
 
-pub returns-then-mask_word-saturating_sub-ne0 : goal.returns-then-mask_word-saturating_sub-ne0
+pub returns-then-mask_word-low-ne0 : goal.returns-then-mask_word-low-ne0
 unfolding record_bytes mask_bytes
-returns-then-mask_word-saturating_sub-ne0 c =
+returns-then-mask_word-low-ne0 c =
     let there = word_there _ _ _ _ c.loop-k-test.true (omega arith) c.mask_word.ensures in
-    let named = word_stops _ _ _ _ _ there (omega arith) (omega arith) (rw c.saturating_sub.ensures at c.if-mask_word-saturating_sub-ne0.true) in
-    (stops _ _ _ (omega arith) (mask_bad _ _ (rw c.barred_from-from.ensures at (sym c.loop-k.invariant.1 ∙ named))) c.records.invariant.1, omega arith)
+    let named = word_stops _ _ _ _ _ there (omega arith) (omega arith) (rw c.loop-k.invariant.1 at c.if-mask_word-low-ne0.true) in
+    (stops _ _ _ (omega arith) (mask_bad _ _ (rw c.barred_from-from.ensures at (sym c.loop-k.invariant.2 ∙ named))) c.records.invariant.1, omega arith)
 
 pub returns-then-not-head_fine : goal.returns-then-not-head_fine
 unfolding record_bytes mask_bytes
@@ -33,7 +34,7 @@ returns-then-not-head_fine c =
 pub records-preserved : goal.records-preserved
 unfolding record_bytes mask_bytes
 records-preserved c =
-    let none = rw c.barred_from-from.ensures at (sym c.loop-k.invariant.1 ∙ mask_end _ _ _ (omega arith)) in (
+    let none = rw c.barred_from-from.ensures at (sym c.loop-k.invariant.2 ∙ mask_end _ _ _ (omega arith)) in (
       c.loop-k.invariant.0,
       goes_on_lem _ _ _ (omega arith) (both-fine _ _ (sym c.head_fine.ensures ∙ c.if-not-head_fine.false) none) c.records.invariant.1,
     )

@@ -6,7 +6,7 @@ use Rattle.sheet.proofs.Records.{Left}
 use Rattle.sheet.proofs.faults.first_bad.Given as goal
 
 abbrev pub invariant-loop-k : goal.invariant-loop-k
-invariant-loop-k l = (l.bad ≡ None) × (zeros (drop (64 * l.k + (l.from - 64 * l.k)) (mask l.sheet l.i)) ≡ zeros (drop l.from (mask l.sheet l.i)))
+invariant-loop-k l = (l.bad ≡ None) × (l.low ≡ l.from - 64 * l.k) × (zeros (drop (64 * l.k + (l.from - 64 * l.k)) (mask l.sheet l.i)) ≡ zeros (drop l.from (mask l.sheet l.i)))
 
 abbrev pub invariant-records : goal.invariant-records
 invariant-records l = (l.bad ≡ None) × Left l.sheet (length l.sheet / record_bytes) l.i
