@@ -10,7 +10,7 @@ use native.Mathlib.Omega.{arith}
 use native.Mathlib.Nat.{div-one, pow-suc}
 use mathlib.Core.Bool.{Bool, true, false}
 use mathlib.Core.List.{List, ◌∷◌, ◌++◌, map, flatten, append_assoc}
-use lib.ListN.{length, drop, get_or, replicate, length-replicate}
+use lib.ListN.{length, drop, replicate, length-replicate}
 use Rattle.std.specs.Int.{w64, to_le_bytes, bytes_low_first}
 use lib.Seq.{drop-drop}
 use borrow.Rule.Slice.PartMut.{put_mid}
@@ -21,7 +21,7 @@ use Rattle.bits.proofs.Tests.{length-tab, tab_append, tab_below}
 use Rattle.bits.proofs.WordBits.{bit-has, bit-suc, shr_bit, low_bit}
 use Rattle.bits.proofs.RowsWritten.{put-behind}
 use Rattle.gf2.specs.System.{led}
-use Rattle.verdict.proofs.Assembling.{map-tab, strip}
+use Rattle.verdict.proofs.Assembling.{map-tab}
 use Rattle.lanes.specs.Lanes.{packed, lane_constant, row_byte, row_record, row_mark, row_repaired}
 use Rattle.lanes.specs.Inner.{LaneWord, record_rows}
 
@@ -99,11 +99,11 @@ module _ (c w : ℕ) (vals : List ℕ) where
   by_rows f = sym (map-tab f N (row w vals))
 
   -- the records, the marks, and the bytes behind
-  pub repaired-is : (o r M : List ℕ) → r ≡ drop (N * 64) o → length M ≡ N → ((j : ℕ) → j < length M → get_or M j 0 ≡ row_mark c (row w vals j))
+  pub repaired-is : (o r M : List ℕ) → r ≡ drop (N * 64) o → M ≡ map (row_mark c) (rows_of w vals)
       → record_rows c w vals N ++ (M ++ drop N r) ≡ row_repaired c (rows_of w vals) ++ drop (65 * N) o
   unfolding record_rows row_repaired
-  repaired-is o r M er lm em =
+  repaired-is o r M er em =
       let e : N * 64 + N ≡ 65 * N = omega arith in
       let rest : drop N r ≡ drop (65 * N) o = ap (drop N) er ∙ drop-drop N (N * 64) o ∙ ap (λ (k : ℕ). drop k o) e in
       sym (append_assoc (record_rows c w vals N) M (drop N r))
-      ∙ ap₂ {C = List ℕ} ◌++◌ (ap₂ {C = List ℕ} ◌++◌ (ap flatten (by_rows (row_record c))) (strip c w vals (row_mark c) M lm em)) rest
+      ∙ ap₂ {C = List ℕ} ◌++◌ (ap₂ {C = List ℕ} ◌++◌ (ap flatten (by_rows (row_record c))) em) rest

@@ -1,8 +1,8 @@
 // The repaired records and their marks, read off the reduced rows.
-ghost use Rattle.std.specs.Prelude.{◌≡◌, ◌+◌, ◌*◌, ◌/◌, ◌≤◌, ◌++◌, length, drop};
+ghost use Rattle.std.specs.Prelude.{◌≡◌, ◌+◌, ◌*◌, ◌/◌, ◌≤◌, ◌++◌, length, drop, map};
 ghost use Rattle.bits.specs.Vectors.{tab};
 ghost use Rattle.bits.specs.Rows.{rows_of};
-ghost use Rattle.lanes.specs.Lanes.{row_byte, row_record, row_repaired};
+ghost use Rattle.lanes.specs.Lanes.{row_byte, row_record, row_mark, row_repaired};
 ghost use Rattle.lanes.specs.Inner.{record_rows};
 
 use crate::{Rows, row};
@@ -41,14 +41,24 @@ fn records(vals: Rows, out: &mut [u8])
     }
 }
 
+// Writes the marks.
+fn marks(vals: Rows, out: &mut [u8])
+    requires { length out.old ≡ length vals.words.now / vals.w }
+    ensures { let v = vals.entry in out.new ≡ map (row_mark v.c) (rows_of v.w v.words.now) }
+{
+    // By index too.
+    for (j, x) in vals.iter().enumerate() {
+        out[j] = u8::from(gf2::led(x, vals.c));
+    }
+}
+
 // Writes the repaired records, then the marks, 1 where a coefficient is left, else 0; later bytes are as found.
 pub fn write(vals: Rows, out: &mut [u8])
     requires { 65 * (length vals.words.now / vals.w) ≤ length out.old }
     ensures { let v = vals.entry in out.new ≡ row_repaired v.c (rows_of v.w v.words.now) ++ drop (65 * (length v.words.now / v.w)) out.old }
 {
     let n = vals.len();
-    let c = vals.c;
     let (front, rest) = out.split_at_mut(n * 64);
     records(vals, front);
-    vals.write(&mut rest[..n], |x| u8::from(gf2::led(x, c)));
+    marks(vals, &mut rest[..n]);
 }

@@ -5,6 +5,4 @@ use Rattle.lanes.proofs.fill.write.Goals as goal
 pub returns : goal.returns
 returns c =
     let V = c.args.vals in
-    rw (c.len-n.ensures, c.records.ensures)
-    (repaired-is V.c V.w V.words.now c.args.out.now c.split_at_mut-front.result.1.now c.write.new.out (search rules)
-    (search rules) (λ j h. search rules))
+    rw (c.len-n.ensures, c.records.ensures) (repaired-is V.c V.w V.words.now c.args.out.now c.split_at_mut-front.result.1.now c.marks.new.out (search rules) c.marks.ensures)
