@@ -99,16 +99,21 @@ pub struct Progress {
     pub more: bool,
 }
 
+// What takes turns.
+pub trait Turn {
+    // Takes a turn; answers whether there is more to come.
+    fn turn(&mut self) -> bool;
+}
+
 // Takes turns until one answers that there is no more. They are counted, since a proved loop has to end and nothing says that the
 // input does; no run of a program counts so many.
-pub fn turns<F: FnMut() -> bool>(mut turn: F) -> Progress
-    requires { F.IsAlwaysCallable turn }
+pub fn turns<T: Turn>(of: &mut T) -> Progress
     ensures { Ends result.made result.more }
 {
     let mut made = 0u64;
     for _ in 0..u64::MAX {
         made += 1;
-        if !turn() {
+        if !of.turn() {
             return Progress { made, more: false };
         }
     }

@@ -1,5 +1,6 @@
 -- A run of words, and room for their records.
 --     run_words      the words of a run
+--     choice_bytes   the bytes of a choice
 --     Ready          what is known of a sheet, a choice and the room for a run
 --     Filled         what is filled into the output, and how many bytes
 use Rattle.std.specs.Prelude.{◌≡◌, ℕ, ◌*◌, ◌^◌, ◌≤◌, length, drop}
@@ -9,6 +10,9 @@ use Rattle.meaning.specs.Stream.{answer_bytes, n_of, records}
 
 unfoldable pub run_words : ℕ
 run_words = 32
+
+unfoldable pub choice_bytes : ℕ
+choice_bytes = 2
 
 -- the sheet and the choice have a right length, and there is room for the words and the records of a run
 pub record Ready (s ch : List ℕ) (run room : ℕ) : Type 0 where

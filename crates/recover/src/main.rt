@@ -5,21 +5,15 @@
 // What cannot be read or written, and a file of wrong length, is said on standard error; else nothing is.
 #![tactic(auto)]
 
-ghost use Rattle.std.specs.Prelude.{◌≡◌, ◌*◌, ◌^◌, ◌≤◌, [], length, OnErr};
-ghost use Rattle.meaning.specs.Limits.{largest_n};
+ghost use Rattle.std.specs.Prelude.{◌≡◌, ◌*◌, ◌^◌, ◌≤◌, ◌<◌, [], length, OnErr};
+ghost use Rattle.meaning.specs.Limits.{largest_n, record_bytes};
 ghost use Rattle.meaning.specs.Stream.{answer_bytes, records};
 ghost use Rattle.intake.specs.Turns.{Ends};
-ghost use Rattle.recover.specs.Runs.{run_words, Ready, Filled};
+ghost use Rattle.recover.specs.Runs.{run_words, choice_bytes, Ready, Filled};
 
-use intake::{End, Progress, Streams};
+use intake::{End, Progress, Streams, Turn};
 use meaning::{Refused, limits};
 use std::process::ExitCode;
-
-// The bytes of the longest sheet.
-const LONGEST: usize = limits::RECORD * limits::POSITIONS;
-
-// The bytes of a choice.
-const PAIR: usize = 2;
 
 // One byte more than the longest sheet, so that a longer file is seen.
 const SHEET: usize = limits::RECORD * limits::POSITIONS + 1;
@@ -43,6 +37,22 @@ fn text(why: Refused) -> &'static [u8] {
             b"recover: sheet.bin is not 68 N bytes long for an N of 1, 2, 4, .. 512; no word was read\n",
         _ => b"recover: choice.bin is not two bytes long; no word was read\n",
     }
+}
+
+// Reads sheet.bin. There is room for more than the longest sheet, so that a longer file is seen.
+fn read_sheet<'a>(streams: &Streams, buf: &'a mut [u8]) -> &'a [u8]
+    requires { record_bytes * 2 ^ largest_n < length buf.old }
+    ensures { length result.now ≤ length buf.old }
+{
+    intake::read_file(streams, b"sheet.bin", b"recover: sheet.bin", buf)
+}
+
+// Reads choice.bin, likewise.
+fn read_choice<'a>(streams: &Streams, buf: &'a mut [u8]) -> &'a [u8]
+    requires { choice_bytes < length buf.old }
+    ensures { length result.now ≤ length buf.old }
+{
+    intake::read_file(streams, b"choice.bin", b"recover: choice.bin", buf)
 }
 
 // The sheet and the choice, as they were read.
@@ -106,10 +116,9 @@ struct Fit<'a> {
 
 impl Fit<'_> {
     // Reads a run of words, answers it and answers whether to go on. A read that fails ends the input, and is said.
-    // The two rooms are parameters: of a struct that held them the check asks whether each turn leaves it the same rooms, which
-    // calls of a closure do not tell.
-    fn turn(&self, streams: &Streams, input: &mut [u8; INPUT], out: &mut [u8; OUTPUT]) -> bool {
-        let run = &mut input[..self.run];
+    fn turn(&self, streams: &Streams, run: &mut [u8], out: &mut [u8; OUTPUT]) -> bool
+        requires { Ready self.now.lot.sheet.now self.now.lot.choice.now (length run.old) (length out.old) }
+    {
         let got = streams.read(run);
         let written = self.lot.answer(streams, &run[..got.n], out);
         if written && let End::Failed(why) = got.end {
@@ -121,11 +130,37 @@ impl Fit<'_> {
         intake::goes_on(written, got.n, run.len())
     }
 
+    // A turn, in the room of the longest run.
+    fn next(&self, streams: &Streams, input: &mut [u8; INPUT], out: &mut [u8; OUTPUT]) -> bool {
+        self.turn(streams, &mut input[..self.run], out)
+    }
+
     // Answers runs until one is the last.
     fn turns(&self, streams: &Streams, input: &mut [u8; INPUT], out: &mut [u8; OUTPUT]) -> Progress
         ensures { Ends result.made result.more }
     {
-        intake::turns(|| self.turn(streams, input, out))
+        let mut rooms = Rooms {
+            fit: self,
+            streams,
+            input,
+            out,
+        };
+        intake::turns(&mut rooms)
+    }
+}
+
+// What a turn takes.
+#[derive(Drop)]
+struct Rooms<'a> {
+    fit: &'a Fit<'a>,
+    streams: &'a Streams,
+    input: &'a mut [u8; INPUT],
+    out: &'a mut [u8; OUTPUT],
+}
+
+impl Turn for Rooms<'_> {
+    fn turn(&mut self) -> bool {
+        self.fit.next(self.streams, self.input, self.out)
     }
 }
 
@@ -146,11 +181,9 @@ fn main(rt: HostRuntime) -> ExitCode {
     let streams = Streams::new(rt);
     let mut sheet = [0u8; SHEET];
     let mut choice = [0u8; CHOICE];
-    prove!(LONGEST < sheet.len());
-    prove!(PAIR < choice.len());
     let lot = Lot {
-        sheet: intake::read_file(&streams, b"sheet.bin", b"recover: sheet.bin", &mut sheet),
-        choice: intake::read_file(&streams, b"choice.bin", b"recover: choice.bin", &mut choice),
+        sheet: read_sheet(&streams, &mut sheet),
+        choice: read_choice(&streams, &mut choice),
     };
     let mut input = [0u8; INPUT];
     let mut out = [0u8; OUTPUT];

@@ -7,23 +7,17 @@
 // records cannot be opened, nothing is read or written.
 #![tactic(auto)]
 
-ghost use Rattle.std.specs.Prelude.{◌≡◌, ◌*◌, ◌≤◌, [], length, OnErr};
-ghost use Rattle.meaning.specs.Limits.{largest_n, head_bytes};
+ghost use Rattle.std.specs.Prelude.{◌≡◌, ◌*◌, ◌^◌, ◌≤◌, ◌<◌, [], length, OnErr};
+ghost use Rattle.meaning.specs.Limits.{largest_n, record_bytes, head_bytes};
 ghost use Rattle.strip_stream.specs.Strips.{strip_bytes, part_bytes, record_count, part_count};
 ghost use Rattle.intake.specs.Turns.{Ends};
 ghost use Rattle.repair.specs.Runs.{run_strips, Room, Ready, Filled};
 
-use intake::{End, Progress, Streams};
+use intake::{End, Progress, Streams, Turn};
 use meaning::{Refused, limits};
 use std::fs::File;
 use std::process::ExitCode;
 use std::rt::Env;
-
-// The bytes of the longest sheet.
-const LONGEST: usize = limits::RECORD * limits::POSITIONS;
-
-// The bytes of a choice.
-const PAIR: usize = 2;
 
 // One byte more than the longest sheet, so that a longer file is seen.
 const SHEET: usize = limits::RECORD * limits::POSITIONS + 1;
@@ -66,6 +60,30 @@ fn text(why: Refused) -> &'static [u8] {
 struct Sizes {
     repaired: usize,
     records: usize,
+}
+
+// Reads sheet.bin. There is room for more than the longest sheet, so that a longer file is seen.
+fn read_sheet<'a>(streams: &Streams, buf: &'a mut [u8]) -> &'a [u8]
+    requires { record_bytes * 2 ^ largest_n < length buf.old }
+    ensures { length result.now ≤ length buf.old }
+{
+    intake::read_file(streams, b"sheet.bin", b"repair: sheet.bin", buf)
+}
+
+// Reads choice.bin, likewise.
+fn read_choice<'a>(streams: &Streams, buf: &'a mut [u8]) -> &'a [u8]
+    requires { 2 < length buf.old }
+    ensures { length result.now ≤ length buf.old }
+{
+    intake::read_file(streams, b"choice.bin", b"repair: choice.bin", buf)
+}
+
+// Reads the marks, likewise.
+fn read_marks<'a>(streams: &Streams, path: &[u8], buf: &'a mut [u8]) -> &'a [u8]
+    requires { 2 ^ largest_n < length buf.old }
+    ensures { length result.now ≤ length buf.old }
+{
+    intake::read_file(streams, path, b"repair: the marks", buf)
 }
 
 // The sheet, the choice and the marks, as they were read.
@@ -161,17 +179,16 @@ struct Fit<'a> {
 
 impl Fit<'_> {
     // Reads a run of strips, answers it and answers whether to go on. A read that fails ends the input, and is said.
-    // The file and the rooms are parameters: of a struct that held them the check asks whether each turn leaves it the same rooms,
-    // which calls of a closure do not tell.
     fn turn(
         &self,
         streams: &Streams,
         file: &mut File,
-        input: &mut [u8; INPUT],
+        run: &mut [u8],
         repaired: &mut [u8; REPAIRED],
         records: &mut [u8; RECORDS],
-    ) -> bool {
-        let run = &mut input[..self.run];
+    ) -> bool
+        requires { Ready self.now.lot.sheet.now self.now.lot.choice.now (length run.old) (length repaired.old) (length records.old) }
+    {
         let got = streams.read(run);
         let written = self
             .lot
@@ -185,6 +202,18 @@ impl Fit<'_> {
         intake::goes_on(written, got.n, run.len())
     }
 
+    // A turn, in the room of the longest run.
+    fn next(
+        &self,
+        streams: &Streams,
+        file: &mut File,
+        input: &mut [u8; INPUT],
+        repaired: &mut [u8; REPAIRED],
+        records: &mut [u8; RECORDS],
+    ) -> bool {
+        self.turn(streams, file, &mut input[..self.run], repaired, records)
+    }
+
     // Answers runs until one is the last.
     fn turns(
         &self,
@@ -196,7 +225,38 @@ impl Fit<'_> {
     ) -> Progress
         ensures { Ends result.made result.more }
     {
-        intake::turns(|| self.turn(streams, file, input, repaired, records))
+        let mut rooms = Rooms {
+            fit: self,
+            streams,
+            file,
+            input,
+            repaired,
+            records,
+        };
+        intake::turns(&mut rooms)
+    }
+}
+
+// What a turn takes.
+#[derive(Drop)]
+struct Rooms<'a> {
+    fit: &'a Fit<'a>,
+    streams: &'a Streams,
+    file: &'a mut File,
+    input: &'a mut [u8; INPUT],
+    repaired: &'a mut [u8; REPAIRED],
+    records: &'a mut [u8; RECORDS],
+}
+
+impl Turn for Rooms<'_> {
+    fn turn(&mut self) -> bool {
+        self.fit.next(
+            self.streams,
+            self.file,
+            self.input,
+            self.repaired,
+            self.records,
+        )
     }
 }
 
@@ -224,13 +284,10 @@ fn work(streams: &Streams, file: &mut File, marks: &[u8]) {
     let mut sheet = [0u8; SHEET];
     let mut choice = [0u8; CHOICE];
     let mut lost = [0u8; MARKS];
-    prove!(LONGEST < sheet.len());
-    prove!(PAIR < choice.len());
-    prove!(limits::POSITIONS < lost.len());
     let lot = Lot {
-        sheet: intake::read_file(streams, b"sheet.bin", b"repair: sheet.bin", &mut sheet),
-        choice: intake::read_file(streams, b"choice.bin", b"repair: choice.bin", &mut choice),
-        lost: intake::read_file(streams, marks, b"repair: the marks", &mut lost),
+        sheet: read_sheet(streams, &mut sheet),
+        choice: read_choice(streams, &mut choice),
+        lost: read_marks(streams, marks, &mut lost),
     };
     let mut input = [0u8; INPUT];
     let mut repaired = [0u8; REPAIRED];

@@ -11,7 +11,7 @@ ghost use Rattle.show.specs.Turn.{written};
 mod line;
 mod text;
 
-use intake::{Progress, Streams};
+use intake::{Progress, Streams, Turn};
 use meaning::limits;
 use std::process::ExitCode;
 
@@ -46,11 +46,30 @@ fn turn(streams: &Streams, answer: &mut [u8; limits::ANSWER], out: &mut [u8; LON
     intake::goes_on(write(streams, &out[..k]), got.n, limits::ANSWER)
 }
 
+// What a turn takes.
+#[derive(Drop)]
+struct Rooms<'a> {
+    streams: &'a Streams,
+    answer: &'a mut [u8; limits::ANSWER],
+    out: &'a mut [u8; LONGEST],
+}
+
+impl Turn for Rooms<'_> {
+    fn turn(&mut self) -> bool {
+        turn(self.streams, self.answer, self.out)
+    }
+}
+
 // Turns until one answers that there is no more.
 fn turns(streams: &Streams, answer: &mut [u8; limits::ANSWER], out: &mut [u8; LONGEST]) -> Progress
     ensures { Ends result.made result.more }
 {
-    intake::turns(|| turn(streams, answer, out))
+    let mut rooms = Rooms {
+        streams,
+        answer,
+        out,
+    };
+    intake::turns(&mut rooms)
 }
 
 fn main(rt: HostRuntime) -> ExitCode {

@@ -3,12 +3,12 @@
 // says what a request and an answer are. Numbers are low byte first.
 #![tactic(auto)]
 
-ghost use Rattle.std.specs.Prelude.{◌≡◌, ◌+◌, ◌<◌, ◌≤◌, ◌%◌, length};
+ghost use Rattle.std.specs.Prelude.{◌≡◌, ◌+◌, ◌<◌, ◌≤◌, ◌%◌, length, replicate};
 ghost use Rattle.trial.specs.Layout.{two_at, four_at, Says, Spells};
 
 mod ops;
 
-use intake::Streams;
+use intake::{Streams, Turn};
 use meaning::Answer;
 use std::io::Read;
 use std::process::ExitCode;
@@ -133,6 +133,13 @@ fn respond(streams: &Streams, q: Request, body: &[u8], out: &mut [u8]) -> bool
     }
 }
 
+// Puts 165 into every byte of out.
+fn blank(out: &mut [u8])
+    ensures { out.new ≡ replicate (length out.old) 165 }
+{
+    out.fill(165);
+}
+
 // Reads the body of a request into the part lent for it, and responds; answers whether to go on.
 fn serve(streams: &Streams, q: Request, body: &mut [u8], out: &mut [u8]) -> bool
     requires { q.a + q.b + q.c ≡ length body.old }
@@ -140,7 +147,7 @@ fn serve(streams: &Streams, q: Request, body: &mut [u8], out: &mut [u8]) -> bool
     if !read(streams, body) {
         return false;
     }
-    out.fill(165);
+    blank(out);
     respond(streams, q, body, out)
 }
 
@@ -162,11 +169,30 @@ fn turn(streams: &Streams, room: &mut [u8; ROOM], out: &mut [u8; MOST_OUT]) -> b
     place(streams, parse(&head), room, out)
 }
 
+// What a turn takes.
+#[derive(Drop)]
+struct Rooms<'a> {
+    streams: &'a Streams,
+    room: &'a mut [u8; ROOM],
+    out: &'a mut [u8; MOST_OUT],
+}
+
+impl Turn for Rooms<'_> {
+    fn turn(&mut self) -> bool {
+        turn(self.streams, self.room, self.out)
+    }
+}
+
 // Makes the room for a body and for the output, once, and takes the requests.
 fn main(rt: HostRuntime) -> ExitCode {
     let streams = Streams::new(rt);
     let mut room = [0u8; ROOM];
     let mut out = [0u8; MOST_OUT];
-    intake::turns(|| turn(&streams, &mut room, &mut out));
+    let mut rooms = Rooms {
+        streams: &streams,
+        room: &mut room,
+        out: &mut out,
+    };
+    intake::turns(&mut rooms);
     streams.status()
 }
