@@ -9,13 +9,13 @@ use mathlib.Core.Path.{◌≡◌, refl, sym, ap, ap₂, ◌∙◌}
 use Prim.Native.Nat.{ℕ, zero, suc, ◌+◌, ◌-◌, ◌*◌, ◌^◌, ◌≤◌, ◌<◌}
 use native.Mathlib.Omega.{arith}
 use native.Mathlib.Nat.{add-mul, mul-le-mul_right}
-use mathlib.Core.Bool.{Bool, true, false, ◌&&◌, not}
+use mathlib.Core.Bool.{Bool, true, false, ◌&&◌}
 use mathlib.Core.List.{List, ◌++◌, flatten}
 use lib.ListN.{length, take, drop, replicate, length-append}
 use lib.Seq.{take_at, drop_at, drop-drop, length-take-le}
 use lib.Dec.{ltb}
 use Rattle.std.specs.Prelude.{Result, Ok, Err}
-use borrow.Author.Tests.{lt-ltb, le-ltb, ltb-true, ltb-false, not-true, not-false, eq-eqb, le-leb}
+use borrow.Author.Tests.{lt-ltb, le-ltb, ltb-true, ltb-false, eq-eqb, le-leb}
 use Rattle.bits.specs.Vectors.{pick, tab}
 use Rattle.bits.specs.Rows.{Row, row, rows, rows_of}
 use Rattle.bits.proofs.Tests.{and_i}
@@ -78,99 +78,95 @@ module _ (n r most c w : ℕ) (s d vals us eqs : List ℕ) where
   abbrev after : Outcome
   after = solving n r most c w s d vals us eqs
 
-  module _ {t : Bool} (p : t ≡ spaced r w (length vals) (length eqs)) where
-    pub misfit : not t ≡ true → leaves (Err Misfit) vals us eqs ≡ after
+  pub misfit : spaced r w (length vals) (length eqs) ≡ false → leaves (Err Misfit) vals us eqs ≡ after
+  unfolding solving fitting
+  misfit h = rw h refl
+
+  module _ (room : spaced r w (length vals) (length eqs) ≡ true) (a : Result Found Stop) (v u e : List ℕ) (q : descended a v u e ≡ descending n s d most c w vals us eqs) where
+    -- the definition, where there is room
+    at_room : after ≡ pick D (pick (ltb most G) (leaves (Err (Over G)) vals us eqs) (reduced n r c w s d vals G)) (leaves (Err Misfit) vals us eqs)
     unfolding solving fitting
-    misfit h = rw (sym p ∙ not-true t h) refl
+    at_room = rw room refl
 
-    module _ (h : not t ≡ false) (a : Result Found Stop) (v u e : List ℕ) (q : descended a v u e ≡ descending n s d most c w vals us eqs) where
-      room : spaced r w (length vals) (length eqs) ≡ true
-      room = sym p ∙ not-false t h
+    abbrev given : Result Found Stop → descent.Outcome
+    given x = descended x v u e
 
-      -- the definition, where there is room
-      at_room : after ≡ pick D (pick (ltb most G) (leaves (Err (Over G)) vals us eqs) (reduced n r c w s d vals G)) (leaves (Err Misfit) vals us eqs)
-      unfolding solving fitting
-      at_room = rw room refl
+    pub stopped : (o : Stop) → a ≡ Err o → leaves (Err o) v u e ≡ after
+    unfolding descending
+    stopped o x = go D (ltb most G) (ap given (sym x) ∙ q) ∙ sym at_room
+      where
+        go : (b f : Bool) → given (Err o) ≡ pick b (pick f (descended (Err (Over G)) vals us eqs) (written (length eqs) G w (found n s d c w vals))) (descended (Err Misfit) vals us eqs)
+            → leaves (Err o) v u e ≡ pick b (pick f (leaves (Err (Over G)) vals us eqs) (reduced n r c w s d vals G)) (leaves (Err Misfit) vals us eqs)
+        go false f z =
+            let y = ap (λ (y : descent.Outcome). y.answer) z in
+            let k : o ≡ Misfit = cc in
+            ap₂ (λ (i : Stop) (y : descent.Outcome). leaves (Err i) y.vals y.us y.eqs) k z
+        go true true z =
+            let y = ap (λ (y : descent.Outcome). y.answer) z in
+            let k : o ≡ Over G = cc in
+            ap₂ (λ (i : Stop) (y : descent.Outcome). leaves (Err i) y.vals y.us y.eqs) k z
+        go true false z = let y = ap (λ (y : descent.Outcome). y.answer) z in absurd (cc)
 
-      abbrev given : Result Found Stop → descent.Outcome
-      given x = descended x v u e
+    module _ (g m : ℕ) (x : a ≡ Ok (record { g = g; m = m })) (kv : length v ≡ length vals) (ku : length u ≡ length us) (ke : length e ≡ length eqs) where
+      T : Told n s d most c w vals us eqs g m v u e
+      T = done-tells n s d most c w vals us eqs g m v u e (ap given (sym x) ∙ q)
 
-      pub stopped : (o : Stop) → a ≡ Err o → leaves (Err o) v u e ≡ after
+      long : length eqs ≡ 2 ^ n * w + r * w
+      long = (spaced-true r w (length vals) (length eqs) room).1 ∙ ap (λ (k : ℕ). k + r * w) T.fit.rows_v
+
+      few : m ≤ 2 ^ n
+      few = omega (arith, T.many, rows-most c w (rule_at s) n d (row w vals))
+
+      words : m * w ≤ 2 ^ n * w
+      words = mul-le-mul_right w few
+
+      pub settling : Settling T₀ s m v u e
+      settling =
+          record {
+            small = T.fit.small;
+            records = T.fit.records;
+            check = (spaced-true r w (length vals) (length eqs) room).0;
+            constant = T.fit.constant;
+            narrow = T.fit.narrow;
+            rows_v = kv ∙ T.fit.rows_v;
+            rows_u = ku ∙ T.fit.rows_u;
+            rows_e = omega (arith, add-mul m r w, words, long, ke);
+          }
+
+      -- zeros behind the equations
+      tail : drop ((m + r) * w) e ≡ replicate ((2 ^ n + r - (m + r)) * w) 0
+      tail =
+          let F : List ℕ = flatten O.after.eqs in
+          let R : List ℕ = replicate (length eqs - m * w) 0 in
+          let l : length F ≡ m * w = ap length (ap flatten (sym T.rows_e) ∙ flatten-rows w m e) ∙ length-take-le (m * w) e (omega (arith, words, long, ke)) in
+          let k : (m + r) * w ≡ m * w + r * w = add-mul m r w in
+          let i : 2 ^ n ≡ m + (2 ^ n + r - (m + r)) = omega (arith, few) in
+          let j : 2 ^ n * w ≡ m * w + (2 ^ n + r - (m + r)) * w = ap (λ (x : ℕ). x * w) i ∙ add-mul m (2 ^ n + r - (m + r)) w in
+          ap₂ drop k T.all_e ∙ sym (drop-drop (r * w) (m * w) (F ++ R)) ∙ ap (drop (r * w)) (drop_at F R (m * w) l)
+          ∙ drop-zeros (r * w) (length eqs - m * w) ∙ zeros (length eqs - m * w - r * w) ((2 ^ n + r - (m + r)) * w) (omega (arith, long))
+
+      system-is : rows w m e ++ checks (row_values c w) r (rules n s) (rows w (2 ^ n) u) ≡ E
+      unfolding rules
+      system-is = ap₂ (λ (x y : List Row). x ++ checks (row_values c w) r (rules n s) y) T.rows_e T.rows_u
+
+      reduced-is : settled T₀ s (record { g = g; m = m }) v u e ≡ reduced n r c w s d vals G
+      reduced-is =
+          let z : solve c (rows w m e ++ checks (row_values c w) r (rules n s) (rows w (2 ^ n) u)) (rows w (2 ^ n) v) ≡ solve c E O.block = ap₂ (solve c) system-is T.block in
+          let y = tail ∙ ap {B = List ℕ} (λ k. replicate ((2 ^ n + r - (k + r)) * w) 0) T.many in
+          λ i. leaves (Ok (record { g = T.unknown i; m = T.many i + r; rank = (z i).rank })) (flatten (z i).rest) (T.all_u i) (flatten (z i).eqs ++ y i)
+
+      fits : D ≡ true
       unfolding descending
-      stopped o x = go D (ltb most G) (ap given (sym x) ∙ q) ∙ sym at_room
+      fits = go D refl (ap given (sym x) ∙ q)
         where
-          go : (b f : Bool) → given (Err o) ≡ pick b (pick f (descended (Err (Over G)) vals us eqs) (written (length eqs) G w (found n s d c w vals))) (descended (Err Misfit) vals us eqs)
-              → leaves (Err o) v u e ≡ pick b (pick f (leaves (Err (Over G)) vals us eqs) (reduced n r c w s d vals G)) (leaves (Err Misfit) vals us eqs)
-          go false f z =
-              let y = ap (λ (y : descent.Outcome). y.answer) z in
-              let k : o ≡ Misfit = cc in
-              ap₂ (λ (i : Stop) (y : descent.Outcome). leaves (Err i) y.vals y.us y.eqs) k z
-          go true true z =
-              let y = ap (λ (y : descent.Outcome). y.answer) z in
-              let k : o ≡ Over G = cc in
-              ap₂ (λ (i : Stop) (y : descent.Outcome). leaves (Err i) y.vals y.us y.eqs) k z
-          go true false z = let y = ap (λ (y : descent.Outcome). y.answer) z in absurd (cc)
+          go : (b : Bool) → D ≡ b → given (Ok (record { g = g; m = m })) ≡ pick b (pick (ltb most G) (descended (Err (Over G)) vals us eqs) (written (length eqs) G w (found n s d c w vals))) (descended (Err Misfit) vals us eqs) → D ≡ true
+          go true f z = f
+          go false f z = let y = ap (λ (y : descent.Outcome). y.answer) z in absurd (cc)
 
-      module _ (g m : ℕ) (x : a ≡ Ok (record { g = g; m = m })) (kv : length v ≡ length vals) (ku : length u ≡ length us) (ke : length e ≡ length eqs) where
-        T : Told n s d most c w vals us eqs g m v u e
-        T = done-tells n s d most c w vals us eqs g m v u e (ap given (sym x) ∙ q)
-
-        long : length eqs ≡ 2 ^ n * w + r * w
-        long = (spaced-true r w (length vals) (length eqs) room).1 ∙ ap (λ (k : ℕ). k + r * w) T.fit.rows_v
-
-        few : m ≤ 2 ^ n
-        few = omega (arith, T.many, rows-most c w (rule_at s) n d (row w vals))
-
-        words : m * w ≤ 2 ^ n * w
-        words = mul-le-mul_right w few
-
-        pub settling : Settling T₀ s m v u e
-        settling =
-            record {
-              small = T.fit.small;
-              records = T.fit.records;
-              check = (spaced-true r w (length vals) (length eqs) room).0;
-              constant = T.fit.constant;
-              narrow = T.fit.narrow;
-              rows_v = kv ∙ T.fit.rows_v;
-              rows_u = ku ∙ T.fit.rows_u;
-              rows_e = omega (arith, add-mul m r w, words, long, ke);
-            }
-
-        -- zeros behind the equations
-        tail : drop ((m + r) * w) e ≡ replicate ((2 ^ n + r - (m + r)) * w) 0
-        tail =
-            let F : List ℕ = flatten O.after.eqs in
-            let R : List ℕ = replicate (length eqs - m * w) 0 in
-            let l : length F ≡ m * w = ap length (ap flatten (sym T.rows_e) ∙ flatten-rows w m e) ∙ length-take-le (m * w) e (omega (arith, words, long, ke)) in
-            let k : (m + r) * w ≡ m * w + r * w = add-mul m r w in
-            let i : 2 ^ n ≡ m + (2 ^ n + r - (m + r)) = omega (arith, few) in
-            let j : 2 ^ n * w ≡ m * w + (2 ^ n + r - (m + r)) * w = ap (λ (x : ℕ). x * w) i ∙ add-mul m (2 ^ n + r - (m + r)) w in
-            ap₂ drop k T.all_e ∙ sym (drop-drop (r * w) (m * w) (F ++ R)) ∙ ap (drop (r * w)) (drop_at F R (m * w) l)
-            ∙ drop-zeros (r * w) (length eqs - m * w) ∙ zeros (length eqs - m * w - r * w) ((2 ^ n + r - (m + r)) * w) (omega (arith, long))
-
-        system-is : rows w m e ++ checks (row_values c w) r (rules n s) (rows w (2 ^ n) u) ≡ E
-        unfolding rules
-        system-is = ap₂ (λ (x y : List Row). x ++ checks (row_values c w) r (rules n s) y) T.rows_e T.rows_u
-
-        reduced-is : settled T₀ s (record { g = g; m = m }) v u e ≡ reduced n r c w s d vals G
-        reduced-is =
-            let z : solve c (rows w m e ++ checks (row_values c w) r (rules n s) (rows w (2 ^ n) u)) (rows w (2 ^ n) v) ≡ solve c E O.block = ap₂ (solve c) system-is T.block in
-            let y = tail ∙ ap {B = List ℕ} (λ k. replicate ((2 ^ n + r - (k + r)) * w) 0) T.many in
-            λ i. leaves (Ok (record { g = T.unknown i; m = T.many i + r; rank = (z i).rank })) (flatten (z i).rest) (T.all_u i) (flatten (z i).eqs ++ y i)
-
-        fits : D ≡ true
-        unfolding descending
-        fits = go D refl (ap given (sym x) ∙ q)
-          where
-            go : (b : Bool) → D ≡ b → given (Ok (record { g = g; m = m })) ≡ pick b (pick (ltb most G) (descended (Err (Over G)) vals us eqs) (written (length eqs) G w (found n s d c w vals))) (descended (Err Misfit) vals us eqs) → D ≡ true
-            go true f z = f
-            go false f z = let y = ap (λ (y : descent.Outcome). y.answer) z in absurd (cc)
-
-        pub solved_as : (y : Outcome) → y ≡ settled T₀ s (record { g = g; m = m }) v u e → y ≡ after
-        solved_as y z =
-            z ∙ reduced-is
-            ∙ sym (at_room ∙ rw (fits, le-ltb most G (omega (arith, T.unknown, T.few))) refl)
+      pub solved_as : (y : Outcome) → y ≡ settled T₀ s (record { g = g; m = m }) v u e → y ≡ after
+      solved_as y z =
+          z ∙ reduced-is
+          ∙ sym (at_room ∙ rw (fits, le-ltb most G (omega (arith, T.unknown, T.few))) refl)
 
   -- ---- what a caller has
 

@@ -2,8 +2,8 @@
 // word. Every engine stands on it.
 #![tactic(auto)]
 
-ghost use Rattle.std.specs.Prelude.{◌≡◌};
-ghost use Rattle.system.specs.Solving.{leaves, solving, Settling, settled};
+ghost use Rattle.std.specs.Prelude.{◌≡◌, true, length};
+ghost use Rattle.system.specs.Solving.{leaves, solving, spaced, Settling, settled};
 
 mod limits;
 
@@ -52,6 +52,22 @@ fn settle(
     Ok(Solved { g, m: all, rank })
 }
 
+// Descends and settles, where there is room for the check's equations.
+fn run(
+    sheet: &[u8],
+    word: &[u8],
+    t: Terms,
+    vals: &mut [u64],
+    us: &mut [u64],
+    eqs: &mut [u64],
+) -> Result<Solved, Stop>
+    requires { spaced t.r t.words (length vals.old) (length eqs.old) ≡ true }
+    ensures { leaves result vals.new us.new eqs.new ≡ solving t.n t.r t.most t.coeffs t.words sheet.now word.now vals.old us.old eqs.old }
+{
+    let found = descent::descend(t.n, sheet, word, t.most, t.coeffs, t.words, vals, us, eqs)?;
+    settle(t, sheet, found, vals, us, eqs)
+}
+
 // Decodes a word of N symbols under the rules of a sheet of N records by halves, and solves the equations that this leaves.
 // A symbol is known where `word` has 0 or 1, and its row then stands in `vals`, row j for symbol j: any rows of `words` words.
 // It is erased where `word` has more. Unknown k is bit k mod 64 of word k div 64 of a row, and the constant is bit 0 of word
@@ -75,6 +91,5 @@ pub fn solve(
     if !limits::spaced(t.r, t.words, vals.len(), eqs.len()) {
         return Err(Stop::Misfit);
     }
-    let found = descent::descend(t.n, sheet, word, t.most, t.coeffs, t.words, vals, us, eqs)?;
-    settle(t, sheet, found, vals, us, eqs)
+    run(sheet, word, t, vals, us, eqs)
 }

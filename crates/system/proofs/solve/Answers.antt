@@ -1,38 +1,6 @@
-use Rattle.std.proofs.lemmas.Result.{err_from_is_err_and}
-use Rattle.system.proofs.Promise.{misfit, stopped, settling, solved_as}
-use mathlib.Core.Path.{ap}
-use mathlib.Core.Bool.{not}
+use mathlib.Core.Path.{sym, ◌∙◌}
+use Rattle.system.proofs.Promise.{misfit}
 use Rattle.system.proofs.solve.Goals as goal
 
 pub returns-then-not-spaced : goal.returns-then-not-spaced
-returns-then-not-spaced c = let A = c.args in misfit A.t.n A.t.r A.t.most A.t.coeffs A.t.words A.sheet.now A.word.now A.vals.now A.us.now A.eqs.now c.spaced.ensures (ap not c.if-not-spaced.true)
-
-pub returns-in_err-found : goal.returns-in_err-found
-returns-in_err-found c =
-    let A = c.args in
-    let D = c.descend in
-    let p = err_from_is_err_and c.from_residual.result c.from_residual.ensures.1 in
-    rw (p.1, p.2) (stopped A.t.n A.t.r A.t.most A.t.coeffs A.t.words A.sheet.now A.word.now A.vals.now A.us.now A.eqs.now
-    c.spaced.ensures (ap not c.if-not-spaced.false)
-    D.result D.new.vals D.new.us D.new.eqs D.ensures
-    _ c.in_err-found.was)
-
-pub settle-requires : goal.settle-requires
-settle-requires c =
-    let A = c.args in
-    let D = c.descend in
-    settling A.t.n A.t.r A.t.most A.t.coeffs A.t.words A.sheet.now A.word.now A.vals.now A.us.now A.eqs.now
-    c.spaced.ensures (ap not c.if-not-spaced.false)
-    D.result D.new.vals D.new.us D.new.eqs D.ensures
-    _ _ c.in_ok-found.was
-    D.auto.vals D.auto.us D.auto.eqs
-
-pub returns : goal.returns
-returns c =
-    let A = c.args in
-    let D = c.descend in
-    solved_as A.t.n A.t.r A.t.most A.t.coeffs A.t.words A.sheet.now A.word.now A.vals.now A.us.now A.eqs.now
-    c.spaced.ensures (ap not c.if-not-spaced.false)
-    D.result D.new.vals D.new.us D.new.eqs D.ensures
-    _ _ c.in_ok-found.was
-    D.auto.vals D.auto.us D.auto.eqs _ c.settle.ensures
+returns-then-not-spaced c = let A = c.args in misfit A.t.n A.t.r A.t.most A.t.coeffs A.t.words A.sheet.now A.word.now A.vals.now A.us.now A.eqs.now (sym c.spaced.ensures ∙ c.if-not-spaced.true)

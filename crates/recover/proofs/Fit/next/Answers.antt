@@ -7,7 +7,7 @@ use Rattle.recover.proofs.Fit.next.Goals as goal
 
 pub slice_bounds-turn-end : goal.slice_bounds-turn-end
 unfolding largest_n run_words
-slice_bounds-turn-end c = c.args.self.now.within
+slice_bounds-turn-end c = omega (arith, c.args.self.now.within, c.told-input)
 
 pub turn-requires : goal.turn-requires
 unfolding largest_n run_words answer_bytes head_bytes strip_width

@@ -8,7 +8,7 @@ use Rattle.repair.proofs.Fit.next.Goals as goal
 
 pub slice_bounds-turn-end : goal.slice_bounds-turn-end
 unfolding largest_n run_strips strip_bytes
-slice_bounds-turn-end c = c.args.self.now.within
+slice_bounds-turn-end c = omega (arith, c.args.self.now.within, c.told-input)
 
 pub turn-requires : goal.turn-requires
 unfolding largest_n run_strips strip_bytes part_bytes head_bytes
