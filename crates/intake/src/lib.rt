@@ -99,25 +99,33 @@ pub struct Progress {
     pub more: bool,
 }
 
+// Takes turns until one answers that there is no more. They are counted, since a proved loop has to end and nothing says that the
+// input does; no run of a program counts so many. What it asks is that a turn may be taken; `take_turns` asks nothing.
+pub fn turns<F: FnMut() -> bool>(mut turn: F) -> Progress
+    requires { F.IsAlwaysCallable turn }
+    ensures { Ends result.made result.more }
+{
+    let mut made = 0u64;
+    for _ in 0..u64::MAX {
+        made += 1;
+        if !turn() {
+            return Progress { made, more: false };
+        }
+    }
+    Progress { made, more: true }
+}
+
 // What takes turns.
 pub trait Turn {
     // Takes a turn; answers whether there is more to come.
     fn turn(&mut self) -> bool;
 }
 
-// Takes turns until one answers that there is no more. They are counted, since a proved loop has to end and nothing says that the
-// input does; no run of a program counts so many.
-pub fn turns<T: Turn>(of: &mut T) -> Progress
+// Takes the turns of what takes them, likewise.
+pub fn take_turns<T: Turn>(of: &mut T) -> Progress
     ensures { Ends result.made result.more }
 {
-    let mut made = 0u64;
-    for _ in 0..u64::MAX {
-        made += 1;
-        if !of.turn() {
-            return Progress { made, more: false };
-        }
-    }
-    Progress { made, more: true }
+    turns(|| of.turn())
 }
 
 // Reads a file into buf, as far as it has room, and answers how many bytes. Where it cannot be opened or read to its end, says
@@ -144,4 +152,38 @@ pub fn read_file<'a>(streams: &Streams, path: &[u8], label: &[u8], buf: &'a mut 
 {
     let n = load(streams, path, label, buf);
     &buf[..n]
+}
+
+// That turns are taken until one answers no more, by a closure and by what takes turns.
+#[cfg(test)]
+mod tests {
+    use super::*;
+
+    #[derive(Drop)]
+    struct Left {
+        n: u64,
+    }
+
+    impl Turn for Left {
+        fn turn(&mut self) -> bool {
+            self.n = self.n.saturating_sub(1);
+            0 < self.n
+        }
+    }
+
+    #[test]
+    fn all_turns(rt: HostRuntime) {
+        for n in [1, 2, 300] {
+            let mut left = Left { n };
+            let by_closure = turns(|| left.turn());
+            let by_trait = take_turns(&mut Left { n });
+            assert_eq!(rt;
+                (by_closure.made, by_closure.more),
+                (n, false),
+                "a closure, {n}"
+            );
+            assert_eq!(rt; (by_trait.made, by_trait.more), (n, false), "a trait, {n}");
+            assert_eq!(rt; left.n, 0, "what is left of {n}");
+        }
+    }
 }

@@ -62,3 +62,22 @@ pub fn write(vals: Rows, out: &mut [u8])
     records(vals, front);
     marks(vals, &mut rest[..n]);
 }
+
+// `verdict`'s rows, as another crate has them: the marks, written by a closure.
+#[cfg(test)]
+mod tests {
+    use super::*;
+
+    #[test]
+    fn by_a_closure(rt: HostRuntime) {
+        let mut words = [1u64; 30];
+        words[10] = 0;
+        let vals = Rows::new(&words, 1, 10).ok().expect(&rt, "three rows");
+        let mut out = [7u8; 4];
+        vals.write(&mut out[..3], |x| u8::from(gf2::led(x, 1)));
+        assert_eq!(rt; out, [1, 0, 1, 7]);
+        // two places for three rows: nothing is changed
+        vals.write(&mut out[2..], |x| u8::from(gf2::led(x, 1)));
+        assert_eq!(rt; out, [1, 0, 1, 7]);
+    }
+}

@@ -145,7 +145,7 @@ impl Fit<'_> {
             input,
             out,
         };
-        intake::turns(&mut rooms)
+        intake::take_turns(&mut rooms)
     }
 }
 

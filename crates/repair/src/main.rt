@@ -233,7 +233,7 @@ impl Fit<'_> {
             repaired,
             records,
         };
-        intake::turns(&mut rooms)
+        intake::take_turns(&mut rooms)
     }
 }
 

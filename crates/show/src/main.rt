@@ -69,7 +69,7 @@ fn turns(streams: &Streams, answer: &mut [u8; limits::ANSWER], out: &mut [u8; LO
         answer,
         out,
     };
-    intake::turns(&mut rooms)
+    intake::take_turns(&mut rooms)
 }
 
 fn main(rt: HostRuntime) -> ExitCode {

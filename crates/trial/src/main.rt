@@ -193,6 +193,6 @@ fn main(rt: HostRuntime) -> ExitCode {
         room: &mut room,
         out: &mut out,
     };
-    intake::turns(&mut rooms);
+    intake::take_turns(&mut rooms);
     streams.status()
 }

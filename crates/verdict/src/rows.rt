@@ -47,7 +47,7 @@ impl<'a, const BEHIND: usize> Rows<'a, BEHIND> {
     }
 
     // Writes what `byte` gives of each row, in their order. Where the output has not one byte for each row, nothing is changed.
-    pub(crate) fn write<F: Fn(&[u64]) -> u8>(&self, out: &mut [u8], byte: F)
+    pub fn write<F: Fn(&[u64]) -> u8>(&self, out: &mut [u8], byte: F)
         requires { (x : _) → length x.now ≡ self.now.w → F.pre byte x }
         ensures wrote { let r = self.now in length out.old ≡ length r.words.now / r.w → (j : ℕ) → j < length out.new
             → FnReturnsAt F.Fn byte (row r.w r.words.now j) (slice_index out.new j) }
